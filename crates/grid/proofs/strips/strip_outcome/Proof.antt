@@ -1,0 +1,72 @@
+-- `strips::strip_outcome` meets its contract: 2, 3, 4 by the shape's own check, then 5, then 9.
+-- Assumes nothing.
+use mathlib.Core.Path.{_≡_, refl, sym, ap, _∙_}
+use native.Mathlib.Omega.{arith}
+use borrow.Author.Tests.{not-true, not-false}
+use mathlib.Core.Bool.{Bool}
+use Rattle.grid.specs.Shapes.{Shaped, shapeThen, goodCells, text-passed, product-le}
+use Rattle.grid.specs.Refusals.{outcomeNumber, refused-positive, accepted-zero}
+use Rattle.grid.specs.Strips.{links-shape-refused, links-column-refused, links-room-refused, links-accepted}
+use borrow.Author.Needs.{needs}
+use Rattle.grid.proofs.strips.strip_outcome.Statement.{statement}
+use Rattle.grid.proofs.strips.strip_outcome.Tie as tie
+
+-- what 2, 3, 4 give, in the contract's own terms
+named : (c : tie.After-shape-outcome) → let a = c .before .before .args in
+    outcomeNumber (c .shape-outcome .result) ≡ shapeThen (goodCells (a .cells) (a .rows) (a .columns)) (a .rows) (a .columns) (a .rows) (a .width) 0
+named c =
+    let a = c .before .before .args in
+    c .shape-outcome .ensures ∙ ap (λ (b : Bool). shapeThen b (a .rows) (a .columns) (a .rows) (a .width) 0) (c .before .good-cells .ensures)
+
+-- the shape where they refuse nothing
+shaped : (c : tie.After-enum-told) → let a = c .before .before .before .before .args in
+    Shaped (a .cells) (a .rows) (a .columns) (a .rows) (a .width)
+shaped c = text-passed _ _ _ _ _ (sym (named (c .before .before)) ∙ accepted-zero _ (c .enum-told .given .1))
+
+good-cells-requires : tie.Need-good-cells-requires
+good-cells-requires c κs = search needs
+
+shape-outcome-requires : tie.Need-shape-outcome-requires
+shape-outcome-requires c κs = search needs
+
+enum-told : tie.Need-enum-told
+enum-told c = search needs
+
+enum-told-2 : tie.Need-enum-told-2
+enum-told-2 c = search needs
+
+returns : tie.Need-returns
+returns c =
+    links-shape-refused _ _ _ _ _ _ _
+    (named (c .before .before))
+    (refused-positive _ (c .enum-told2 .given .1))
+
+corner-inside-requires : tie.Need-corner-inside-requires
+corner-inside-requires c κs = search needs
+
+returns-2 : tie.Need-returns-2
+returns-2 c = links-column-refused _ _ _ _ _ _ (shaped (c .before .before)) (sym (c .before .corner-inside .ensures) ∙ not-true _ (c .if1 .taken))
+
+mul-if2 : tie.Need-mul-if2
+mul-if2 c = let s = shaped (c .before .before) in omega (arith, product-le _ _ 255 255 (s .sized .sides .rows-good .small) (s .sized .sides .width-good .small))
+
+returns-3 : tie.Need-returns-3
+returns-3 c = links-room-refused _ _ _ _ _ _ (shaped (c .before .before .before)) (sym (c .before .before .corner-inside .ensures) ∙ not-false _ (c .before .if1 .left)) (c .if2 .taken)
+
+returns-4 : tie.Need-returns-4
+returns-4 c = links-accepted _ _ _ _ _ _ (shaped (c .before .before .before)) (sym (c .before .before .corner-inside .ensures) ∙ not-false _ (c .before .if1 .left)) (c .if2 .left)
+
+pub strip-outcome-spec : {M : Type 1} → statement M
+strip-outcome-spec =
+    tie.close
+    (tie.spec
+    good-cells-requires
+    shape-outcome-requires
+    enum-told
+    enum-told-2
+    returns
+    corner-inside-requires
+    returns-2
+    mul-if2
+    returns-3
+    returns-4)

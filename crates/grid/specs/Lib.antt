@@ -1,0 +1,9 @@
+pub mod Refusals
+pub mod Shapes
+pub mod Windows
+pub mod Strips
+pub mod Distinct
+pub mod Occurrences
+pub mod Counts
+pub mod Symbols
+pub mod Examples

@@ -1,0 +1,8 @@
+// The lower library: refusals and shapes, window reads, strips and links, distinct counts, symbol sets.
+// What stands above relies on the contracts here and on the laws of specs/, never on how a function does it.
+pub mod counts;
+pub mod refusals;
+pub mod shapes;
+pub mod strips;
+pub mod symbols;
+pub mod windows;

@@ -1,0 +1,179 @@
+//! Safe wrappers of the proved operations on texts, windows and symbol sets.
+//!
+//! A text (document 01's sheet) is `rows` by `columns` symbols (yarn numbers), one byte each, row by row. Each wrapper hands its
+//! arguments on to one function of the static library, `crates/exports/src/lib.rt`. No function there asks anything of its caller, so
+//! a wrapper tests nothing and can't be misused: an input that makes no sense is refused, by document 01's number.
+//!
+//! To build and test: `rt staticlib exports` at the repository's top, then `cargo test --release --offline` here.
+
+mod foreign;
+
+use std::fmt;
+
+/// By what an operation refuses its input or a buffer lent to it.
+#[derive(Clone, Copy, Debug, PartialEq, Eq)]
+#[repr(u8)]
+pub enum Refusal {
+    /// A side is 0 or above 255.
+    SideRange = 2,
+    /// The cells given are not rows × columns in number.
+    CellCount = 3,
+    /// The window or strip is taller or wider than the text.
+    TooLarge = 4,
+    /// The strip's column is beyond the last one at which the strip fits.
+    CornerOutside = 5,
+    /// The links buffer is shorter than the strip.
+    LinksBufferShort = 9,
+    /// The counts buffer is shorter than the number of windows.
+    WindowBufferShort = 10,
+}
+
+impl Refusal {
+    /// Every refusal, in the order of the numbers.
+    pub const ALL: [Refusal; 6] = [
+        Refusal::SideRange,
+        Refusal::CellCount,
+        Refusal::TooLarge,
+        Refusal::CornerOutside,
+        Refusal::LinksBufferShort,
+        Refusal::WindowBufferShort,
+    ];
+
+    /// Document 01's number of the refusal.
+    pub fn number(self) -> u8 {
+        self as u8
+    }
+
+    /// The refusal that has this number, if there is one.
+    pub fn from_number(number: u8) -> Option<Refusal> {
+        Refusal::ALL.into_iter().find(|why| why.number() == number)
+    }
+}
+
+impl fmt::Display for Refusal {
+    /// As document 01's program prints it.
+    fn fmt(&self, f: &mut fmt::Formatter) -> fmt::Result {
+        write!(f, "refused {}", self.number())
+    }
+}
+
+impl std::error::Error for Refusal {}
+
+/// An outcome from its number: 0 is accepted.
+fn outcome(number: u8) -> Result<(), Refusal> {
+    if number == 0 {
+        return Ok(());
+    }
+    // An operation gives no other number: that is proved of it.
+    Err(Refusal::from_number(number).expect("a number of document 01"))
+}
+
+/// Writes the links of the strip of that `width` whose first column is `left`, row by row.
+///
+/// The link of a position is the distance back to the nearest earlier position of the strip with the same symbol, or 0. The first
+/// `rows * width` entries of `links` are written and the rest stay. A refusal changes none.
+pub fn strip_links(
+    text: &[u8],
+    rows: usize,
+    columns: usize,
+    width: usize,
+    left: usize,
+    links: &mut [u16],
+) -> Result<(), Refusal> {
+    // SAFETY: both slices are passed as they are, a pointer with its own length.
+    outcome(unsafe {
+        foreign::colourway_strip_links(
+            text.as_ptr(),
+            text.len(),
+            rows,
+            columns,
+            width,
+            left,
+            links.as_mut_ptr(),
+            links.len(),
+        )
+    })
+}
+
+/// Writes the number of different symbols in each window of `height` by `width` cells, row by row of corners (document 01's tallies).
+///
+/// One entry of `counts` a window is written and the rest stay. A refusal changes none.
+pub fn distinct_counts(
+    text: &[u8],
+    rows: usize,
+    columns: usize,
+    height: usize,
+    width: usize,
+    counts: &mut [u16],
+) -> Result<(), Refusal> {
+    // SAFETY: both slices are passed as they are, a pointer with its own length.
+    outcome(unsafe {
+        foreign::colourway_distinct_counts(
+            text.as_ptr(),
+            text.len(),
+            rows,
+            columns,
+            height,
+            width,
+            counts.as_mut_ptr(),
+            counts.len(),
+        )
+    })
+}
+
+/// The symbol in cell (`i`, `j`) of the window at corner (`row`, `column`), or `None` where the cell lies past the text's end.
+///
+/// The text is read through its row width, without copying: a column beyond it leads into the next row.
+pub fn window_cell(text: &[u8], row_width: u8, row: u8, column: u8, i: u8, j: u8) -> Option<u8> {
+    // SAFETY: the slice is passed as it is, a pointer with its own length.
+    let number = unsafe {
+        foreign::colourway_window_cell(text.as_ptr(), text.len(), row_width, row, column, i, j)
+    };
+    u8::try_from(number).ok()
+}
+
+/// A set of symbols, held as 256 bits in four words: bit `k` of word `i` is 1 where symbol `64 * i + k` is in the set.
+#[derive(Clone, Copy, Debug, PartialEq, Eq)]
+pub struct Symbols {
+    words: [u64; 4],
+}
+
+impl Symbols {
+    /// The set of the symbols in a pattern (document 01's motif).
+    pub fn of(pattern: &[u8]) -> Symbols {
+        let mut words = [0; 4];
+        // SAFETY: the slice is passed as a pointer with its own length, and words are four.
+        unsafe { foreign::colourway_symbols(pattern.as_ptr(), pattern.len(), &mut words) };
+        Symbols { words }
+    }
+
+    /// The set that these words hold. Any four words hold one.
+    pub fn from_words(words: [u64; 4]) -> Symbols {
+        Symbols { words }
+    }
+
+    /// The set's four words.
+    pub fn words(self) -> [u64; 4] {
+        self.words
+    }
+
+    /// How many symbols are in the set.
+    pub fn size(self) -> u32 {
+        // SAFETY: words are four.
+        unsafe { foreign::colourway_symbols_size(&self.words) }
+    }
+
+    /// The lowest symbol of the set, if it has one.
+    pub fn lowest(self) -> Option<u8> {
+        // SAFETY: words are four.
+        let number = unsafe { foreign::colourway_symbols_lowest(&self.words) };
+        u8::try_from(number).ok()
+    }
+
+    /// The set without a symbol.
+    pub fn without(mut self, symbol: u8) -> Symbols {
+        // SAFETY: words are four.
+        unsafe { foreign::colourway_symbols_without(&mut self.words, symbol) };
+        self
+    }
+}

@@ -1,0 +1,59 @@
+//! The proved operations and the brute force on the same random inputs: the answer and every cell of the buffer are compared.
+
+mod counts;
+mod links;
+mod random;
+mod symbols;
+mod windows;
+
+use random::{Random, SEED};
+use std::collections::BTreeMap;
+use std::fmt::Debug;
+
+/// How many inputs each operation is tried on.
+const CASES: u64 = 20_000;
+
+/// An operation with the two ways to its answer.
+struct Operation<Input, Answer> {
+    name: &'static str,
+    /// The next input.
+    input: fn(&mut Random) -> Input,
+    proved: fn(&Input) -> Answer,
+    brute: fn(&Input) -> Answer,
+}
+
+impl<Input: Debug, Answer: PartialEq + Debug> Operation<Input, Answer> {
+    /// Compares the two on every case, and counts the cases by what `kind` makes of their answer.
+    fn compare<Kind: Ord>(&self, kind: fn(&Answer) -> Kind) -> BTreeMap<Kind, u64> {
+        let mut kinds = BTreeMap::new();
+        for case in 0..CASES {
+            let input = (self.input)(&mut Random::of_case(self.name, case));
+            let proved = (self.proved)(&input);
+            let brute = (self.brute)(&input);
+            assert!(
+                proved == brute,
+                "{}: seed {SEED:#x}, case {case}\n  input: {input:?}\n  proved code: {proved:?}\n  brute force: {brute:?}",
+                self.name
+            );
+            *kinds.entry(kind(&brute)).or_insert(0) += 1;
+        }
+        kinds
+    }
+}
+
+/// Fails unless each of the outcomes, and no other, came up often enough for the comparison to say something of it.
+fn assert_met(met: &BTreeMap<u8, u64>, outcomes: &[u8]) {
+    let seen: Vec<u8> = met.keys().copied().collect();
+    assert_eq!(seen, outcomes, "the outcomes that the inputs had");
+    for (number, cases) in met {
+        assert!(
+            *cases >= CASES / 100,
+            "only {cases} inputs had outcome {number}"
+        );
+    }
+}
+
+/// The number of an operation's outcome.
+fn number(outcome: Result<(), colourway::Refusal>) -> u8 {
+    outcome.map_or_else(|why| why.number(), |()| 0)
+}
