@@ -1,5 +1,5 @@
-//! The static library's functions, as `crates/exports/src/lib.rt` has them. Nothing checks these lines against that file: when one
-//! changes, so must the other. There a slice is one parameter; here it is a pointer and then a length.
+//! The static library's functions, as the files of `crates/exports/src` have them. Nothing checks these lines against those files: when
+//! one changes, so must the other. There a slice is one parameter; here it is a pointer and then a length.
 
 extern "C" {
     pub fn colourway_strip_links(
@@ -41,4 +41,38 @@ extern "C" {
     pub fn colourway_symbols_lowest(words: &[u64; 4]) -> u32;
 
     pub fn colourway_symbols_without(words: &mut [u64; 4], symbol: u8);
+
+    pub fn colourway_bijection_empty(forward: &mut [u16; 256], backward: &mut [u16; 256]);
+
+    pub fn colourway_bijection_pair(
+        forward: &mut [u16; 256],
+        backward: &mut [u16; 256],
+        a: u8,
+        c: u8,
+    ) -> u8;
+
+    pub fn colourway_bijection_invert(forward: &mut [u16; 256], backward: &mut [u16; 256]) -> u8;
+
+    pub fn colourway_bijection_compose(
+        forward: &mut [u16; 256],
+        backward: &mut [u16; 256],
+        other_forward: &[u16; 256],
+        other_backward: &[u16; 256],
+    ) -> u8;
+
+    pub fn colourway_one_window(
+        text: *const u8,
+        text_length: usize,
+        rows: usize,
+        columns: usize,
+        pattern: *const u8,
+        pattern_length: usize,
+        height: usize,
+        width: usize,
+        row: usize,
+        column: usize,
+        forward: &mut [u16; 256],
+        backward: &mut [u16; 256],
+        mismatch: &mut [usize; 3],
+    ) -> u8;
 }

@@ -1,16 +1,21 @@
-//! Safe wrappers of the proved operations on texts, windows and symbol sets.
+//! Safe wrappers of the proved operations on texts, windows, symbol sets and bijections, and of the one-window question.
 //!
 //! A text (document 01's sheet) is `rows` by `columns` symbols (yarn numbers), one byte each, row by row. Each wrapper hands its
-//! arguments on to one function of the static library, `crates/exports/src/lib.rt`. No function there asks anything of its caller, so
-//! a wrapper tests nothing and can't be misused: an input that makes no sense is refused, by document 01's number.
+//! arguments on to one function of the static library, `crates/exports`. No function there asks anything of its caller, so a wrapper
+//! tests nothing and can't be misused: an input that makes no sense is refused, by document 01's number.
 //!
 //! To build and test: `rt staticlib exports` at the repository's top, then `cargo test --release --offline` here.
 
+mod bijections;
+mod compare;
 mod foreign;
+
+pub use bijections::{Bijection, NONE};
+pub use compare::{one_window, one_window_into, WindowAnswer};
 
 use std::fmt;
 
-/// By what an operation refuses its input or a buffer lent to it.
+/// By what an operation refuses its input, a buffer lent to it or a bijection.
 #[derive(Clone, Copy, Debug, PartialEq, Eq)]
 #[repr(u8)]
 pub enum Refusal {
@@ -20,23 +25,32 @@ pub enum Refusal {
     CellCount = 3,
     /// The window or strip is taller or wider than the text.
     TooLarge = 4,
-    /// The strip's column is beyond the last one at which the strip fits.
+    /// The window's corner, or the strip's column, is beyond the last at which the window or strip fits.
     CornerOutside = 5,
     /// The links buffer is shorter than the strip.
     LinksBufferShort = 9,
     /// The counts buffer is shorter than the number of windows.
     WindowBufferShort = 10,
+    /// The pattern symbol already has another image.
+    HasOtherImage = 12,
+    /// The text symbol is already another's image.
+    HasOtherPreimage = 13,
+    /// The columns of a bijection disagree or hold a number above 256.
+    ColumnsDisagree = 14,
 }
 
 impl Refusal {
     /// Every refusal, in the order of the numbers.
-    pub const ALL: [Refusal; 6] = [
+    pub const ALL: [Refusal; 9] = [
         Refusal::SideRange,
         Refusal::CellCount,
         Refusal::TooLarge,
         Refusal::CornerOutside,
         Refusal::LinksBufferShort,
         Refusal::WindowBufferShort,
+        Refusal::HasOtherImage,
+        Refusal::HasOtherPreimage,
+        Refusal::ColumnsDisagree,
     ];
 
     /// Document 01's number of the refusal.

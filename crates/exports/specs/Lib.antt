@@ -1,1 +1,3 @@
-pub mod Words
+pub mod Symbols
+pub mod Bijections
+pub mod Compare

@@ -1,7 +1,7 @@
 -- Document 01, 'Refused by number': the number of each refusal and what it returns besides.
 -- Assumes nothing.
 use mathlib.Core.Path.{_≡_, refl, ap}
-use Prim.Native.Nat.{ℕ, zero, suc, _<_}
+use Prim.Native.Nat.{ℕ, zero, suc, _≤_, _<_}
 use native.Mathlib.Omega.{arith}
 use mathlib.Core.Bool.{Bool}
 use mathlib.Core.List.{List, [], _∷_, _++_}
@@ -81,6 +81,24 @@ number-positive HasOtherImage = omega arith
 number-positive HasOtherPreimage = omega arith
 number-positive ColumnsDisagree = omega arith
 number-positive (CursorSpent at) = omega arith
+
+-- the refusals of a shape return nothing besides their number
+pub no-values : (why : Refusal) → numberOf why ≤ 5 → valuesOf why ≡ []
+no-values SizesMissing h = refl
+no-values SideRange h = refl
+no-values CellCount h = refl
+no-values TooLarge h = refl
+no-values CornerOutside h = refl
+no-values (ListingForm at) h = absurd (omega arith)
+no-values (ListingFalse at) h = absurd (omega arith)
+no-values TooManyCells h = refl
+no-values LinksBufferShort h = refl
+no-values WindowBufferShort h = refl
+no-values (ListingBufferShort needed) h = absurd (omega arith)
+no-values HasOtherImage h = refl
+no-values HasOtherPreimage h = refl
+no-values ColumnsDisagree h = refl
+no-values (CursorSpent at) h = absurd (omega arith)
 
 -- the number of an outcome whose case is known
 pub refused-positive : (o : Outcome) {why : Refusal} → o ≡ Refused why → 0 < outcomeNumber o

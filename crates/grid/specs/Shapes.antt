@@ -168,6 +168,17 @@ shape-then-zero cellsGood rows columns height width after e =
     let r = one-passed (fits rows columns height width) 4 after (omega arith) (q .1) in
     (rw (p .0, q .0, r .0), r .1)
 
+-- no number of the chain is above 4 and above what comes after
+pub shape-number-le : (cellsGood : Bool) (rows columns height width after bound : ℕ) → 4 ≤ bound → after ≤ bound → shapeThen cellsGood rows columns height width after ≤ bound
+unfolding shapeThen
+shape-number-le cellsGood rows columns height width after bound h k = go (goodSides rows columns height width) cellsGood (fits rows columns height width)
+  where
+    go : (a b c : Bool) → unless a 2 (unless b 3 (unless c 4 after)) ≤ bound
+    go true true true = k
+    go true true false = h
+    go true false c = omega arith
+    go false b c = omega arith
+
 -- of a text alone
 pub text-passed : (cells rows columns height width : ℕ) → shapeThen (goodCells cells rows columns) rows columns height width 0 ≡ 0 → Shaped cells rows columns height width
 text-passed cells rows columns height width e =

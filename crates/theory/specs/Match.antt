@@ -5,6 +5,7 @@ pub mod Even
 pub mod Answers
 pub mod Images
 pub mod Relation
+pub mod Ext
 use mathlib.Core.Path.{_≡_}
 use mathlib.Core.Bool.{Bool, true, false, not}
 use mathlib.Core.List.{List}
@@ -62,7 +63,7 @@ pub data Answer : Type 0 where
   matched : Answer
   mismatched : Bool → ℕ → ℕ → Answer
 
--- the mismatch that ends at p and begins first
+-- the mismatch that ends at p, where some does, and begins first
 unfoldable pub mismatchEnding : (ℕ → ℕ) → (ℕ → ℕ) → ℕ → Answer
 mismatchEnding m w p = mismatched (eqb (m (earliest m w p)) (m p)) (earliest m w p) p
 

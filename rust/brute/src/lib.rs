@@ -4,6 +4,12 @@
 //! glance, however slow it is. An operation on a buffer takes the buffer as it was, and answers the number of the refusal (0 where the
 //! input is accepted) with the whole buffer as it is afterwards.
 
+mod bijections;
+mod compare;
+
+pub use bijections::{compose, invert, pair, Columns};
+pub use compare::one_window;
+
 use std::collections::{BTreeSet, HashSet};
 
 /// The number of the first condition that holds, or 0: "each is given when its condition holds and no earlier one does".

@@ -1,5 +1,7 @@
 //! The proved operations and the brute force on the same random inputs: the answer and every cell of the buffer are compared.
 
+mod bijections;
+mod compare;
 mod counts;
 mod links;
 mod random;
@@ -41,14 +43,14 @@ impl<Input: Debug, Answer: PartialEq + Debug> Operation<Input, Answer> {
     }
 }
 
-/// Fails unless each of the outcomes, and no other, came up often enough for the comparison to say something of it.
-fn assert_met(met: &BTreeMap<u8, u64>, outcomes: &[u8]) {
-    let seen: Vec<u8> = met.keys().copied().collect();
-    assert_eq!(seen, outcomes, "the outcomes that the inputs had");
-    for (number, cases) in met {
+/// Fails unless each of these kinds of answer, and no other, came up often enough for the comparison to say something of it.
+fn assert_met<Kind: Copy + PartialEq + Debug>(met: &BTreeMap<Kind, u64>, kinds: &[Kind]) {
+    let seen: Vec<Kind> = met.keys().copied().collect();
+    assert_eq!(seen, kinds, "the kinds of answer that the inputs had");
+    for (kind, cases) in met {
         assert!(
             *cases >= CASES / 100,
-            "only {cases} inputs had outcome {number}"
+            "only {cases} inputs had an answer of kind {kind:?}"
         );
     }
 }

@@ -48,15 +48,22 @@ impl Random {
         self.next() as u8
     }
 
-    /// A list of symbols from an alphabet of 1, 2, 4, 16 or 256 of them, which may lie anywhere among the 256.
-    pub fn text(&mut self, cells: usize) -> Vec<u8> {
+    /// That many different symbols, from anywhere among the 256 and in any order.
+    pub fn symbols(&mut self, size: usize) -> Vec<u8> {
         let mut symbols: Vec<u8> = (0..=255).collect();
-        let size = self.choose(&[1, 2, 4, 16, 256]);
         for k in 0..size {
             let other = self.between(k, 255);
             symbols.swap(k, other);
         }
-        (0..cells).map(|_| symbols[self.below(size)]).collect()
+        symbols.truncate(size);
+        symbols
+    }
+
+    /// A list of symbols from an alphabet of 1, 2, 3, 4, 16 or 256 of them.
+    pub fn text(&mut self, cells: usize) -> Vec<u8> {
+        let size = self.choose(&[1, 2, 3, 4, 16, 256]);
+        let symbols = self.symbols(size);
+        (0..cells).map(|_| self.choose(&symbols)).collect()
     }
 
     /// A buffer of noise.

@@ -12,10 +12,11 @@ use lib.ListN.{length, getD, set, length-set}
 use lib.Seq.{ext-getD, getD-set-same, getD-set-other}
 use Rattle.theory.specs.Test.{pick, Tested, holds, fails, eq-tested, true-or-false}
 use Rattle.theory.specs.Table.{table, length-table, getD-table}
+use Rattle.theory.specs.Columns.{Agree}
 use Rattle.theory.specs.Match.{ends, imageOf, column}
 use Rattle.theory.specs.Match.Even.{Alike, Even, even-if, ends-false, ends-not, Image, at, nowhere, image, even-carries, even-swap}
 
--- two symbols whose images are f and g may be paired, the second being c: neither has an image, or they are paired already
+-- two symbols may be paired, where f is the image of the first and g the preimage of the second, which is c: both have none, or they are paired already
 abbrev pub agreesBy : ℕ → ℕ → ℕ → Bool
 agreesBy f g c = pick (eqb f 256) (eqb g 256) (eqb f c)
 
@@ -45,7 +46,7 @@ module _ (m w : ℕ → ℕ) where
       go (nowhere g) (at k h e) = absurd (g k (omega arith) e)
       go (nowhere g) (nowhere g′) = refl
 
-  -- one more position, with which no earlier one mismatchAt, sets one entry
+  -- one more position, with which no earlier one mismatches, sets one entry
   pub column-step : (p : ℕ) → Even m w (suc p) → m p < 256 → column m w (suc p) ≡ set (column m w p) (m p) (w p)
   column-step p ev small =
       ext-getD 0 _ _ (simp (length-set, length-column))
@@ -88,10 +89,29 @@ module _ (m w : ℕ → ℕ) (p : ℕ) (clear : (k : ℕ) → k < p → ends m w
       go (nowhere g) (at k h e) = ne-eqb (m k) 256 (below (ms k)) ∙ sym (ap not (ends-if k h (λ a. g k h (a .back e))))
       go (nowhere g) (nowhere g′) = sym (ap not (ends-not m w p (λ q h. record { there = λ e. absurd (g q h e); back = λ e. absurd (g′ q h e) })))
 
--- the two columns agree
-pub columns-agree : (m w : ℕ → ℕ) (n a b : ℕ) → Even m w n → b < 256 → imageOf m w n a ≡ b → imageOf w m n b ≡ a
-columns-agree m w n a b ev small = go (image m w n a)
+-- an image leads back
+pub image-back : (m w : ℕ → ℕ) (n a b : ℕ) → Even m w n → b < 256 → imageOf m w n a ≡ b → imageOf w m n b ≡ a
+image-back m w n a b ev small = go (image m w n a)
   where
     go : {v : ℕ} → Image m w n a v → v ≡ b → imageOf w m n b ≡ a
     go (at k h e) x = rw (← x) (even-carries w m n (even-swap m w n ev) k h ∙ e)
     go (nowhere g) x = absurd (below small (sym x))
+
+image-le : (m w : ℕ → ℕ) (n a : ℕ) → ((k : ℕ) → w k < 256) → imageOf m w n a ≤ 256
+image-le m w n a ws = go (image m w n a)
+  where
+    go : {v : ℕ} → Image m w n a v → v ≤ 256
+    go (at k h e) = omega (arith, ws k)
+    go (nowhere g) = omega arith
+
+-- the two columns of a match agree
+pub columns-agree : (m w : ℕ → ℕ) (n : ℕ) → Even m w n → ((k : ℕ) → m k < 256) → ((k : ℕ) → w k < 256) → Agree (column m w n) (column w m n)
+columns-agree m w n ev ms ws =
+    record {
+      forward-le = λ a h. rw (column-at m w n a 0 h) (image-le m w n a ws);
+      backward-le = λ b h. rw (column-at w m n b 0 h) (image-le w m n b ms);
+      same = λ a ha b hb. (
+        (λ e. column-at w m n b 0 hb ∙ image-back m w n a b ev hb (sym (column-at m w n a 0 ha) ∙ e)),
+        (λ e. column-at m w n a 0 ha ∙ image-back w m n b a (even-swap m w n ev) ha (sym (column-at w m n b 0 hb) ∙ e)),
+      );
+    }

@@ -1,5 +1,5 @@
--- Matching is reflexive, symmetric and transitive; and over bytes it makes no difference whether the mapping is one-to-one on the pattern's
--- symbols or on all symbols.
+-- Matching is reflexive, symmetric and transitive; and where the window's symbols are bytes it makes no difference whether the mapping is
+-- one-to-one on the pattern's symbols or on all numbers (symbols without an image then go to numbers above the bytes).
 -- Assumes nothing.
 use mathlib.Core.Path.{_≡_, refl, sym, _∙_, ap}
 use mathlib.Core.Bool.{Bool, true, false}
@@ -35,7 +35,7 @@ abbrev pub MatchesTotal : (ℕ → ℕ) → (ℕ → ℕ) → ℕ → Type 0
 MatchesTotal m w n = (f : ℕ → ℕ) × ((a b : ℕ) → f a ≡ f b → a ≡ b) × ((p : ℕ) → p < n → f (m p) ≡ w p)
 
 module _ (m w : ℕ → ℕ) (n : ℕ) where
-  -- a symbol without a image goes above all bytes
+  -- a symbol without an image goes above all bytes
   extended : ℕ → ℕ
   extended a = pick (ltb (imageOf m w n a) 256) (imageOf m w n a) (a + 256)
 

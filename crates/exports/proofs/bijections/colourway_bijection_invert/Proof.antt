@@ -1,0 +1,28 @@
+-- `invert` fixes the number and the bijection, of the bijection that the columns held; `write_answer` hands both over.
+-- Assumes nothing.
+use mathlib.Core.Path.{_∙_, ap}
+use Rattle.matching.specs.Bijections.{invertNumber}
+use Rattle.matching.specs.Bijections.{invertAfter}
+use borrow.Author.Needs.{needs}
+use Rattle.exports.proofs.bijections.colourway_bijection_invert.Statement.{statement}
+use Rattle.exports.proofs.bijections.colourway_bijection_invert.Tie as tie
+
+bijection-in-requires : tie.Need-bijection-in-requires
+bijection-in-requires c κs = search needs
+
+invert-requires : tie.Need-invert-requires
+invert-requires c κs = search needs
+
+write-answer-requires : tie.Need-write-answer-requires
+write-answer-requires c κs = search needs
+
+returns : tie.Need-returns
+returns c =
+    let answer = c .before .before .before .invert .ensures in
+    let held = c .before .before .before .before .bijection-in .ensures in (
+      c .write-answer .ensures .0 ∙ answer .0 ∙ ap invertNumber held,
+      c .write-answer .ensures .1 ∙ answer .1 ∙ ap invertAfter held,
+    )
+
+pub colourway-bijection-invert-spec : {M : Type 1} → statement M
+colourway-bijection-invert-spec = tie.close (tie.spec bijection-in-requires invert-requires write-answer-requires returns)

@@ -1,0 +1,19 @@
+-- The words are those of the set that `symbols_of` answers.
+-- Assumes nothing.
+use mathlib.Core.Path.{_∙_, ap}
+use Rattle.exports.specs.Symbols.{wordsOf}
+use borrow.Author.Needs.{needs}
+use Rattle.exports.proofs.symbols.colourway_symbols.Statement.{statement}
+use Rattle.exports.proofs.symbols.colourway_symbols.Tie as tie
+
+symbols-of-requires : tie.Need-symbols-of-requires
+symbols-of-requires c κs = search needs
+
+words-of-requires : tie.Need-words-of-requires
+words-of-requires c κs = search needs
+
+returns : tie.Need-returns
+returns c = c .words-of .ensures ∙ ap wordsOf (c .before .symbols-of .ensures)
+
+pub colourway-symbols-spec : {M : Type 1} → statement M
+colourway-symbols-spec = tie.close (tie.spec symbols-of-requires words-of-requires returns)

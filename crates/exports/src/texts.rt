@@ -1,0 +1,58 @@
+// Texts and their windows for Rust and C.
+ghost use mathlib.Core.Path.{_≡_};
+ghost use lib.ListN.{length};
+ghost use Rattle.grid.specs.Strips.{linksNumber, linksAfter};
+ghost use Rattle.grid.specs.Counts.{countsNumber, countsAfter};
+ghost use Rattle.grid.specs.Windows.{cellOf, cellNumber};
+use grid::refusals::outcome_number;
+use grid::windows::Cell;
+
+// The links of the strip of that width whose first column is left (document 01, 'Strips and links').
+#[no_mangle]
+pub extern "C" fn colourway_strip_links(
+    text: &[u8],
+    rows: usize,
+    columns: usize,
+    width: usize,
+    left: usize,
+    links: &mut [u16],
+) -> u8
+    ensures { λ r. ⌜ r ≡ linksNumber (length (now (text .entry))) rows columns width left (length (now (links .entry))) ⌝ }
+    ensures { λ r. ⌜ now (links .exit) ≡ linksAfter (now (text .entry)) rows columns width left (now (links .entry)) ⌝ }
+{
+    outcome_number(grid::strips::strip_links(text, rows, columns, width, left, links))
+}
+
+// The number of different symbols in every window of that size (document 01, 'Tallies').
+#[no_mangle]
+pub extern "C" fn colourway_distinct_counts(
+    text: &[u8],
+    rows: usize,
+    columns: usize,
+    height: usize,
+    width: usize,
+    counts: &mut [u16],
+) -> u8
+    ensures { λ r. ⌜ r ≡ countsNumber (length (now (text .entry))) rows columns height width (length (now (counts .entry))) ⌝ }
+    ensures { λ r. ⌜ now (counts .exit) ≡ countsAfter (now (text .entry)) rows columns height width (now (counts .entry)) ⌝ }
+{
+    outcome_number(grid::counts::distinct_counts(text, rows, columns, height, width, counts))
+}
+
+// The symbol in cell (i, j) of the window at corner (row, column), or 256 where the cell lies past the text's end.
+#[no_mangle]
+pub extern "C" fn colourway_window_cell(
+    text: &[u8],
+    row_width: u8,
+    row: u8,
+    column: u8,
+    i: u8,
+    j: u8,
+) -> u16
+    ensures { λ r. ⌜ r ≡ cellNumber (cellOf (now (text .entry)) «row_width» row column i j) ⌝ }
+{
+    match grid::windows::window_cell(text, row_width, row, column, i, j) {
+        Cell::Symbol(v) => v as u16,
+        Cell::PastEnd => 256,
+    }
+}

@@ -1,0 +1,4 @@
+pub mod Bijections
+pub mod Compare
+pub mod Theorems
+pub mod Examples

@@ -1,0 +1,121 @@
+//! "One window" by brute force: every pair of cells is looked at.
+
+use crate::bijections::{columns_of, Columns};
+use crate::{cells, first_refusal, product, some_side_is_bad};
+use std::collections::BTreeSet;
+
+/// What is answered: the outcome's number; the kind of the clash with its earlier and its later cell, or three zeros; the renaming.
+/// Beside a clash or a refusal stands the empty renaming, which document 01 leaves open.
+type Answer = (u8, [usize; 3], Columns);
+
+/// "The answer is the renaming, mating just the motif's numbers, or a clash."
+#[allow(clippy::too_many_arguments)]
+pub fn one_window(
+    text: &[u8],
+    rows: usize,
+    columns: usize,
+    pattern: &[u8],
+    height: usize,
+    width: usize,
+    row: usize,
+    column: usize,
+) -> Answer {
+    let beyond = |at: usize, whole: usize, part: usize| at as i128 > whole as i128 - part as i128;
+    let number = first_refusal(&[
+        (2, some_side_is_bad(&[rows, columns, height, width])),
+        (
+            3,
+            text.len() as u128 != product(rows, columns)
+                || pattern.len() as u128 != product(height, width),
+        ),
+        (4, height > rows || width > columns),
+        (
+            5,
+            beyond(row, rows, height) || beyond(column, columns, width),
+        ),
+    ]);
+    let nothing = BTreeSet::new();
+    if number != 0 {
+        return (number, [0; 3], columns_of(&nothing));
+    }
+    let window = cells(text, columns, row, column, height, width);
+    if let Some(found) = clash(pattern, &window) {
+        return (0, found, columns_of(&nothing));
+    }
+    let pairs = pattern.iter().copied().zip(window).collect();
+    (0, [0; 3], columns_of(&pairs))
+}
+
+/// "The later cell of the clash is the first at which any clash ends; the earlier is then the first that clashes with it." Kind 3 is
+/// "alike in the motif only", kind 4 "alike in the window only".
+fn clash(pattern: &[u8], window: &[u8]) -> Option<[usize; 3]> {
+    for later in 0..pattern.len() {
+        for earlier in 0..later {
+            let in_pattern = pattern[earlier] == pattern[later];
+            let in_window = window[earlier] == window[later];
+            match (in_pattern, in_window) {
+                (true, false) => return Some([3, earlier, later]),
+                (false, true) => return Some([4, earlier, later]),
+                _ => (),
+            }
+        }
+    }
+    None
+}
+
+#[cfg(test)]
+mod tests {
+    use super::*;
+
+    /// The first draft's text (sheet), 2 by 3, and its pattern (motif), 2 by 2.
+    const TEXT: [u8; 6] = [7, 7, 3, 3, 7, 7];
+    const PATTERN: [u8; 4] = [1, 1, 2, 1];
+
+    #[test]
+    fn windows_of_the_first_draft() {
+        let pairs = columns_of(&BTreeSet::from([(1, 7), (2, 3)]));
+        let none = columns_of(&BTreeSet::new());
+        assert_eq!(
+            one_window(&TEXT, 2, 3, &PATTERN, 2, 2, 0, 0),
+            (0, [0; 3], pairs)
+        );
+        assert_eq!(
+            one_window(&TEXT, 2, 3, &PATTERN, 2, 2, 0, 1),
+            (0, [3, 0, 1], none)
+        );
+    }
+
+    #[test]
+    fn one_row_drafts() {
+        assert_eq!(clash(&[5], &[5]), None);
+        assert_eq!(clash(&[1, 2], &[4, 4]), Some([4, 0, 1]));
+        assert_eq!(clash(&[1, 1], &[4, 5]), Some([3, 0, 1]));
+        assert_eq!(clash(&[1, 2, 1], &[4, 5, 5]), Some([3, 0, 2]));
+        assert_eq!(clash(&[1, 2, 2], &[4, 5, 4]), Some([4, 0, 2]));
+        assert_eq!(clash(&[1, 2], &[2, 1]), None);
+    }
+
+    #[test]
+    fn refused_in_order() {
+        let number = |cells: usize, rows, pattern_cells: usize, height, row| {
+            one_window(
+                &TEXT[..cells],
+                rows,
+                3,
+                &[1; 6][..pattern_cells],
+                height,
+                2,
+                row,
+                0,
+            )
+            .0
+        };
+        assert_eq!(number(5, 0, 5, 3, 1), 2);
+        assert_eq!(number(5, 2, 6, 3, 1), 3);
+        assert_eq!(number(6, 2, 5, 3, 1), 3);
+        assert_eq!(number(6, 2, 6, 3, 1), 4);
+        assert_eq!(number(6, 2, 4, 2, 1), 5);
+        assert_eq!(number(6, 2, 4, 2, usize::MAX), 5);
+        assert_eq!(number(6, 2, 4, 2, 0), 0);
+    }
+}
