@@ -1,0 +1,179 @@
+-- What an answer of the reader says. Number and values determine it, so two answers for one place are the same (`reads-is`); a whole record
+-- stands in the listing byte for byte (`read-whole`); and a refusal says why there is none (`read-refused`).
+-- Number and values are taken back to the answer, by a function of each: so no two records have the same bytes.
+-- Assumes nothing.
+use mathlib.Core.Path.{_≡_, refl, sym, _∙_, ap}
+use mathlib.Core.Bool.{Bool}
+use mathlib.Core.List.{List, _∷_}
+use Prim.Native.Nat.{ℕ, _+_, _*_, _≤_, _<_}
+use native.Mathlib.Nat.{div-add-mod'}
+use native.Mathlib.Omega.{arith}
+use lib.Dec.{eqb, ltb}
+use lib.ListN.{length, getD, take, drop, length-drop}
+use lib.Seq.{length-take-le}
+use borrow.Author.Tests.{ne-eqb}
+use Rattle.theory.specs.Test.{Tested, holds, fails, pick, lt-tested, says-true}
+use Rattle.grid.specs.Refusals.{numberOf, valuesOf, number-positive}
+use Rattle.grid.specs.Shapes.{two-passed}
+use Rattle.grid.specs.declared.refusals.Refusal.{Refusal}
+use Rattle.grid.specs.declared.refusals.Refusal.the-variants.{SizesMissing, SideRange, CellCount, TooLarge, CornerOutside, ListingForm, ListingFalse, TooManyCells, LinksBufferShort, WindowBufferShort, ListingBufferShort, HasOtherImage, HasOtherPreimage, ColumnsDisagree, CursorSpent}
+use Rattle.listing.specs.Records.{bytesOf}
+use Rattle.listing.specs.Reader.{sizeAt, wholeAt, cursorNumber, readNumber, readValues, Reads}
+use Rattle.listing.specs.Reading.{HasRecord, whole-tested, has-inside, number-whole, reads-spent, reads-form}
+use Rattle.listing.specs.declared.records.Spoiled.{Spoiled}
+use Rattle.listing.specs.declared.records.Record.{Record}
+use Rattle.listing.specs.declared.records.Record.the-variants.{Found, Pair, AlikeInPattern, AlikeInWindow, Closing}
+use Rattle.listing.specs.declared.reader.Cursor.{Cursor}
+use Rattle.listing.specs.declared.reader.Read.{Read}
+use Rattle.listing.specs.declared.reader.Read.the-variants.{Whole, Refused}
+
+-- ---- a record by its bytes
+
+spoiledOf : List ℕ → Spoiled
+spoiledOf b =
+    record {
+      window = record { row = getD b 1 0; column = getD b 2 0 };
+      earlier = record { row = getD b 3 0; column = getD b 4 0 };
+      later = record { row = getD b 5 0; column = getD b 6 0 };
+    }
+
+recordOf : List ℕ → Record
+recordOf b =
+    pick (eqb (getD b 0 0) 1) (Found (getD b 1 0) (getD b 2 0))
+    (pick (eqb (getD b 0 0) 2) (Pair (getD b 1 0) (getD b 2 0))
+    (pick (eqb (getD b 0 0) 3) (AlikeInPattern (spoiledOf b))
+    (pick (eqb (getD b 0 0) 4) (AlikeInWindow (spoiledOf b))
+    (Closing (getD b 1 0 * 256 + getD b 2 0) (getD b 3 0 * 256 + getD b 4 0)))))
+
+record-of : (r : Record) → recordOf (bytesOf r) ≡ r
+unfolding recordOf spoiledOf
+record-of (Found row column) = refl
+record-of (Pair pattern text) = refl
+record-of (AlikeInPattern body) = refl
+record-of (AlikeInWindow body) = refl
+record-of (Closing found refused) = rw (div-add-mod' found 256, div-add-mod' refused 256)
+
+-- no two records have the same bytes
+pub bytes-injective : (r s : Record) → bytesOf r ≡ bytesOf s → r ≡ s
+bytes-injective r s e = sym (record-of r) ∙ ap recordOf e ∙ record-of s
+
+-- ---- an answer by its number and values
+
+refusalOf : ℕ → List ℕ → Refusal
+refusalOf n v =
+    pick (eqb n 1) SizesMissing
+    (pick (eqb n 2) SideRange
+    (pick (eqb n 3) CellCount
+    (pick (eqb n 4) TooLarge
+    (pick (eqb n 5) CornerOutside
+    (pick (eqb n 6) (ListingForm (getD v 0 0))
+    (pick (eqb n 7) (ListingFalse (getD v 0 0))
+    (pick (eqb n 8) TooManyCells
+    (pick (eqb n 9) LinksBufferShort
+    (pick (eqb n 10) WindowBufferShort
+    (pick (eqb n 11) (ListingBufferShort (getD v 0 0))
+    (pick (eqb n 12) HasOtherImage
+    (pick (eqb n 13) HasOtherPreimage
+    (pick (eqb n 14) ColumnsDisagree
+    (CursorSpent (getD v 0 0)))))))))))))))
+
+refusal-of : (why : Refusal) → refusalOf (numberOf why) (valuesOf why) ≡ why
+unfolding refusalOf
+refusal-of SizesMissing = refl
+refusal-of SideRange = refl
+refusal-of CellCount = refl
+refusal-of TooLarge = refl
+refusal-of CornerOutside = refl
+refusal-of (ListingForm at) = refl
+refusal-of (ListingFalse at) = refl
+refusal-of TooManyCells = refl
+refusal-of LinksBufferShort = refl
+refusal-of WindowBufferShort = refl
+refusal-of (ListingBufferShort needed) = refl
+refusal-of HasOtherImage = refl
+refusal-of HasOtherPreimage = refl
+refusal-of ColumnsDisagree = refl
+refusal-of (CursorSpent at) = refl
+
+answerOf : ℕ → List ℕ → Read
+answerOf n v = pick (eqb n 0) (Whole (recordOf (drop 1 v)) (record { at = getD v 0 0 })) (Refused (refusalOf n v))
+
+answer-of : (q : Read) → answerOf (readNumber q) (readValues q) ≡ q
+unfolding answerOf
+answer-of (Whole r next) = ap (λ (s : Record). Whole s next) (record-of r)
+answer-of (Refused why) =
+    let some : numberOf why ≡ 0 → ⊥ = λ e. omega (arith, number-positive why) in
+    rw (ne-eqb (numberOf why) 0 some) (ap Refused (refusal-of why))
+
+-- two answers with the same number and the same values are the same
+pub answer-injective : (p q : Read) → readNumber p ≡ readNumber q → readValues p ≡ readValues q → p ≡ q
+answer-injective p q e f = sym (answer-of p) ∙ rw (e, f) (answer-of q)
+
+-- what reading at a place answers is determined
+pub reads-is : (listing : List ℕ) (at : ℕ) (p q : Read) → Reads listing at p → Reads listing at q → p ≡ q
+reads-is listing at p q h k = answer-injective p q (h .number ∙ sym (k .number)) (h .values ∙ sym (k .values))
+
+-- ---- what a caller of the reader learns
+
+-- a whole record: its bytes stand at the place, inside the listing, and the next cursor is behind them
+pub record WholeAt (listing : List ℕ) (at : ℕ) (r : Record) (next : Cursor) : Type 0 where
+  pub inside : at < length listing
+  pub next-is : next .at ≡ at + length (bytesOf r)
+  pub bytes-are : take (length (bytesOf r)) (drop at listing) ≡ bytesOf r
+  pub within : next .at ≤ length listing
+
+-- a refusal: 15 at or past the end, 6 inside where no whole record stands, each with the place
+pub data RefusedAt (listing : List ℕ) (at : ℕ) : Refusal → Type 0 where
+  spent : length listing ≤ at → RefusedAt listing at (CursorSpent at)
+  form : at < length listing → (HasRecord listing at → ⊥) → RefusedAt listing at (ListingForm at)
+
+module _ (listing : List ℕ) (at : ℕ) where
+  -- where the number is 0, a whole record stands
+  has-record : cursorNumber listing at ≡ 0 → HasRecord listing at
+  unfolding cursorNumber
+  has-record e =
+      says-true (whole-tested listing at)
+      (two-passed (ltb at (length listing)) (wholeAt listing at) 15 6 (omega arith) (omega arith) e .1)
+
+  pub read-whole : (r : Record) (next : Cursor) → Reads listing at (Whole r next) → WholeAt listing at r next
+  read-whole r next h =
+      let zero-is : cursorNumber listing at ≡ 0 = sym (h .number) in
+      let has : HasRecord listing at = has-record zero-is in
+      let both-are : next .at ∷ bytesOf r ≡ (at + sizeAt listing at) ∷ take (sizeAt listing at) (drop at listing) = rw zero-is at (h .values) in
+      let after : next .at ≡ at + sizeAt listing at = cc in
+      let bytes : bytesOf r ≡ take (sizeAt listing at) (drop at listing) = cc in
+      let size : length (bytesOf r) ≡ sizeAt listing at =
+      ap length bytes ∙ length-take-le (sizeAt listing at) (drop at listing) (rw length-drop (omega (arith, has .within))) in
+      record {
+        inside = has-inside listing at has;
+        next-is = after ∙ ap (λ (n : ℕ). at + n) (sym size);
+        bytes-are = rw size (sym bytes);
+        within = omega (arith, has .within);
+      }
+
+  refused-by : {b c : Bool} (why : Refusal) → Tested (at < length listing) b → Tested (HasRecord listing at) c
+      → Reads listing at (Refused why) → RefusedAt listing at why
+  refused-by why (holds h) (holds r) q =
+      let some = number-positive why in
+      let none : numberOf why ≡ 0 = q .number ∙ number-whole listing at r in
+      absurd (omega arith)
+  refused-by why (holds h) (fails n) q =
+      let same : Refused why ≡ Refused (ListingForm at) = reads-is listing at _ _ q (reads-form listing at h n) in
+      let why-is : why ≡ ListingForm at = cc in
+      rw why-is (form h n)
+  refused-by why (fails n) t q =
+      let past : length listing ≤ at = omega arith in
+      let same : Refused why ≡ Refused (CursorSpent at) = reads-is listing at _ _ q (reads-spent listing at past) in
+      let why-is : why ≡ CursorSpent at = cc in
+      rw why-is (spent past)
+
+  pub read-refused : (why : Refusal) → Reads listing at (Refused why) → RefusedAt listing at why
+  read-refused why q = refused-by why (lt-tested at (length listing)) (whole-tested listing at) q
+
+  -- whatever the refusal, no whole record stands there
+  refused-none-by : (why : Refusal) → RefusedAt listing at why → HasRecord listing at → ⊥
+  refused-none-by why (spent h) r = let inside = has-inside listing at r in omega arith
+  refused-none-by why (form h n) r = n r
+
+  pub refused-none : (why : Refusal) → Reads listing at (Refused why) → HasRecord listing at → ⊥
+  refused-none why q = refused-none-by why (read-refused why q)

@@ -1,0 +1,55 @@
+-- Document 01's reader: a record with the cursor after it, or 6 for an unknown kind or a cut record, or 15.
+-- Assumes nothing.
+use mathlib.Core.Path.{_≡_}
+use mathlib.Core.Bool.{Bool}
+use mathlib.Core.List.{List, [], _∷_}
+use Prim.Native.Nat.{ℕ, zero, suc, _+_, _<_}
+use lib.Dec.{ltb, leb}
+use lib.ListN.{length, getD, take, drop}
+use Rattle.theory.specs.Test.{both}
+use Rattle.grid.specs.Refusals.{numberOf, valuesOf, unless}
+use Rattle.listing.specs.Records.{bytesOf, kindSize}
+use Rattle.listing.specs.declared.reader.Read.{Read}
+use Rattle.listing.specs.declared.reader.Read.the-variants.{Whole, Refused}
+
+-- document 01's number of an answer: 0 where there is a whole record
+abbrev pub readNumber : Read → ℕ
+readNumber (Whole r next) = 0
+readNumber (Refused why) = numberOf why
+
+-- and its values: the place after the record and the record's bytes; of a refusal, the cursor's place
+abbrev pub readValues : Read → List ℕ
+readValues (Whole r next) = next .at ∷ bytesOf r
+readValues (Refused why) = valuesOf why
+
+-- how long the record at a place is, by its kind
+abbrev pub sizeAt : List ℕ → ℕ → ℕ
+sizeAt listing at = kindSize (getD listing at 0)
+
+-- a whole record stands there: its kind is known and its bytes are all in the listing
+abbrev pub wholeAt : List ℕ → ℕ → Bool
+wholeAt listing at = both (ltb 0 (sizeAt listing at)) (leb (at + sizeAt listing at) (length listing))
+
+-- 15 at or past the end, then 6
+unfoldable pub cursorNumber : List ℕ → ℕ → ℕ
+cursorNumber listing at = unless (ltb at (length listing)) 15 (unless (wholeAt listing at) 6 0)
+
+-- the listing's next bytes, as many as the record has
+abbrev pub cursorValues : ℕ → List ℕ → ℕ → List ℕ
+cursorValues zero listing at = (at + sizeAt listing at) ∷ take (sizeAt listing at) (drop at listing)
+cursorValues (suc number) listing at = at ∷ []
+
+-- what reading at a place answers
+pub record Reads (listing : List ℕ) (at : ℕ) (r : Read) : Type 0 where
+  pub number : readNumber r ≡ cursorNumber listing at
+  pub values : readValues r ≡ cursorValues (cursorNumber listing at) listing at
+
+-- What the inner functions' contracts cite: a byte of that kind stands at the place.
+pub record KindAt (listing : List ℕ) (at kind : ℕ) : Type 0 where
+  pub inside : at < length listing
+  pub kind-is : getD listing at 0 ≡ kind
+
+-- the n bytes that stand k places behind `at`, and on. On a size that is written out it computes to the loads themselves.
+abbrev pub bytesFrom : List ℕ → ℕ → ℕ → ℕ → List ℕ
+bytesFrom listing at k zero = []
+bytesFrom listing at k (suc n) = getD listing (at + k) 0 ∷ bytesFrom listing at (suc k) n

@@ -1,0 +1,3 @@
+// The records of a listing: their bytes, and the reader.
+pub mod reader;
+pub mod records;
