@@ -1,1 +1,2 @@
 pub mod Observations
+pub mod Flags

@@ -5,10 +5,9 @@ use mathlib.Core.Path.{_≡_, refl, sym, _∙_, ap, subst}
 use mathlib.Core.Bool.{Bool}
 use mathlib.Core.Logic.{_↔_}
 use Prim.Native.Nat.{ℕ, zero, suc, _+_, _-_, _≤_, _<_}
-use native.Mathlib.Nat.{add-zero}
 use native.Mathlib.Omega.{arith}
 use lib.Dec.{eqb}
-use Rattle.theory.specs.Test.{Tested, holds, fails, lt-tested, eq-tested, says-true, says-false, true-false, is-true}
+use Rattle.theory.specs.Test.{Tested, holds, fails, lt-tested, eq-tested, says-true, true-false, is-true}
 use Rattle.theory.specs.First.{first, First, first-spec}
 use Rattle.theory.specs.Table.{table, table-zero}
 use Rattle.theory.specs.Match.{Matches, imageOf}

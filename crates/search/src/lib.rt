@@ -1,1 +1,2 @@
-// The search. No code yet: specs/ has the two observations of document 004 on which the flags of the windows rest.
+// The search: the flag of every window, and the listing.
+pub mod flags;
