@@ -101,10 +101,10 @@ module _ (text : List ℕ) (rows columns : ℕ) (pattern : List ℕ) (height wid
       go (mismatched s q p) e none = (s, q, p, e)
 
       back : (s : Bool) × (q : ℕ) × (p : ℕ) × (r .verdict ≡ MismatchVerdict s q p) → Matches m w n → ⊥
-      back (s, q, p, e) x = let z : _≡_ {A = ℕ} 0 1 = clash (window-match-iff .1 x) in omega arith
+      back (s, q, p, e) x = let z : _≡_ {A = ℕ} 0 1 = differ (window-match-iff .1 x) in omega arith
         where
-          clash : r .verdict ≡ Match → _≡_ {A = ℕ} 0 1
-          clash d = cc
+          differ : r .verdict ≡ Match → _≡_ {A = ℕ} 0 1
+          differ d = cc
 
   bijection-is : r .verdict ≡ Match → r .bijection ≡ bijectionOf m w n matched
   bijection-is e = answers .bijection ∙ ap (λ (k : ℕ). bijectionBeside k m w n) accepted ∙ ap (bijectionOf m w n) (answer-is-match e)
