@@ -1,21 +1,27 @@
-//! Safe wrappers of the proved operations on texts, windows, symbol sets and bijections, and of the one-window question.
+//! Safe wrappers of the proved operations on texts, windows, symbol sets and bijections, of the one-window question, and of the search
+//! with its listing and the listing's reader.
 //!
 //! A text (document 01's sheet) is `rows` by `columns` symbols (yarn numbers), one byte each, row by row. Each wrapper hands its
 //! arguments on to one function of the static library, `crates/exports`. No function there asks anything of its caller, so a wrapper
 //! tests nothing and can't be misused: an input that makes no sense is refused, by document 01's number.
 //!
-//! To build and test: `rt staticlib exports` at the repository's top, then `cargo test --release --offline` here.
+//! To build and test: `rt staticlib exports` at the repository's top, then `cargo test --release --offline` here. To measure the search
+//! beside a plain one: `cargo run --release --offline -p bench`.
 
 mod bijections;
 mod compare;
 mod foreign;
+mod reader;
+mod search;
 
 pub use bijections::{Bijection, NONE};
 pub use compare::{one_window, one_window_into, WindowAnswer};
+pub use reader::{read, read_into, records, Place, ReadRefusal, Record, Records};
+pub use search::{search, search_into, Buffers, SearchRefusal, Totals};
 
 use std::fmt;
 
-/// By what an operation refuses its input, a buffer lent to it or a bijection.
+/// By what an operation refuses its input, a buffer lent to it, a bijection or a cursor.
 #[derive(Clone, Copy, Debug, PartialEq, Eq)]
 #[repr(u8)]
 pub enum Refusal {
@@ -27,30 +33,39 @@ pub enum Refusal {
     TooLarge = 4,
     /// The window's corner, or the strip's column, is beyond the last at which the window or strip fits.
     CornerOutside = 5,
-    /// The links buffer is shorter than the strip.
+    /// The listing has an unknown kind or a cut record at the cursor.
+    ListingForm = 6,
+    /// The links buffer is shorter than a strip.
     LinksBufferShort = 9,
-    /// The counts buffer is shorter than the number of windows.
+    /// The flags or the counts buffer is shorter than the number of windows.
     WindowBufferShort = 10,
+    /// The listing buffer is shorter than the listing.
+    ListingBufferShort = 11,
     /// The pattern symbol already has another image.
     HasOtherImage = 12,
     /// The text symbol is already another's image.
     HasOtherPreimage = 13,
     /// The columns of a bijection disagree or hold a number above 256.
     ColumnsDisagree = 14,
+    /// The cursor is at or past the end of the listing.
+    CursorSpent = 15,
 }
 
 impl Refusal {
     /// Every refusal, in the order of the numbers.
-    pub const ALL: [Refusal; 9] = [
+    pub const ALL: [Refusal; 12] = [
         Refusal::SideRange,
         Refusal::CellCount,
         Refusal::TooLarge,
         Refusal::CornerOutside,
+        Refusal::ListingForm,
         Refusal::LinksBufferShort,
         Refusal::WindowBufferShort,
+        Refusal::ListingBufferShort,
         Refusal::HasOtherImage,
         Refusal::HasOtherPreimage,
         Refusal::ColumnsDisagree,
+        Refusal::CursorSpent,
     ];
 
     /// Document 01's number of the refusal.

@@ -1,3 +1,5 @@
-pub mod Symbols
 pub mod Bijections
 pub mod Compare
+pub mod Reader
+pub mod Searching
+pub mod Symbols

@@ -2,5 +2,7 @@
 // as a pointer. An outcome is a number: 0 where it is accepted, else document 01's number of the refusal.
 pub mod bijections;
 pub mod compare;
+pub mod reader;
+pub mod searching;
 pub mod symbols;
 pub mod texts;

@@ -1,7 +1,7 @@
 -- Document 01's tally operation: the number of different symbols in every window of a text.
 -- Assumes nothing.
 use mathlib.Core.Path.{_≡_, sym, _∙_, subst}
-use mathlib.Core.List.{List, [], _∷_, _++_}
+use mathlib.Core.List.{List, [], _++_}
 use Prim.Native.Nat.{ℕ, zero, suc, _+_, _-_, _*_, _/_, _%_, _≤_, _<_}
 use native.Mathlib.Nat.{mul-le-mul-right, suc-mul, mod-lt, div-lt-iff-lt-mul, div-add-mod'}
 use native.Mathlib.Numerals.{add-one, sub-one}

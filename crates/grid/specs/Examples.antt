@@ -1,18 +1,18 @@
 -- Document 01's starred drafts of this library: the links and the tallies of text 7 7 3 / 3 7 7, by computation.
 -- Assumes nothing.
-use mathlib.Core.Path.{_≡_, refl, sym, _∙_, ap, ap₂}
+use mathlib.Core.Path.{_≡_, sym, _∙_, ap, ap₂}
 use mathlib.Core.List.{List, [], _∷_, _++_}
-use Prim.Native.Nat.{ℕ, zero, suc, _+_, _*_, _≤_}
+use Prim.Native.Nat.{ℕ, _+_, _≤_}
 use native.Mathlib.Omega.{arith}
-use lib.ListN.{length, drop}
+use lib.ListN.{length}
 use Rattle.theory.specs.Test.{is-true}
 use Rattle.theory.specs.Table.{table}
-use Rattle.grid.specs.Shapes.{Shaped, Sized, Sides, Side, corner-inside}
-use Rattle.grid.specs.Windows.{stripAt, windowCells, example-text, example-cells, example-strips, example-length}
+use Rattle.grid.specs.Shapes.{Shaped, Side, corner-inside}
+use Rattle.grid.specs.Windows.{example-text, example-cells, example-strips, example-length}
 use Rattle.grid.specs.Distinct.{distinct, example-distinct}
 use Rattle.grid.specs.Strips.{linksNumber, linksAfter, links-accepted, links-after}
 use Rattle.grid.specs.Strips.Links.{links-of-list, example-link-values}
-use Rattle.grid.specs.Counts.{windowCount, countsNumber, countsAfter, counts-accepted, counts-after, window-count}
+use Rattle.grid.specs.Counts.{countsAfter, counts-accepted, counts-after, window-count}
 
 side : (n : ℕ) → 1 ≤ n → n ≤ 255 → Side n
 side n h k = record { positive = h; small = k }

@@ -1,5 +1,5 @@
 -- Document 01's conditions on sides, cells and corners (2, 3, 4, 5), each a sealed test with one law that says what it tests, and the order
--- of 2, 3, 4 that all operations share.
+-- of 2, 3, 4 that all operations on texts share.
 -- Assumes nothing.
 use mathlib.Core.Path.{_≡_, refl}
 use mathlib.Core.Bool.{Bool, true, false}
@@ -87,7 +87,7 @@ corners whole part = whole + 1 - part
 abbrev pub windows : ℕ → ℕ → ℕ → ℕ → ℕ
 windows rows columns height width = corners rows height * corners columns width
 
--- The order of 2, 3 and 4, which every operation has, and then what comes after. What cells are given differs: a text alone, or a pattern too.
+-- The order of 2, 3 and 4, which every operation on a text has, and then what comes after. What cells are given differs: a text alone, or a pattern too.
 pub shapeThen : Bool → ℕ → ℕ → ℕ → ℕ → ℕ → ℕ
 shapeThen cellsGood rows columns height width after =
     unless (goodSides rows columns height width) 2 (unless cellsGood 3 (unless (fits rows columns height width) 4 after))

@@ -2,9 +2,8 @@
 -- Assumes nothing.
 use mathlib.Core.Path.{_≡_, refl, sym, _∙_, ap, ap₂}
 use mathlib.Core.List.{List, [], _∷_, _++_}
-use Prim.Native.Nat.{ℕ, zero, suc, _+_, _-_, _*_, _/_, _%_, _≤_, _<_}
-use native.Mathlib.Nat.{add-zero, add-suc, add-assoc, add-comm, zero-add, suc-add, suc-mul, zero-mul, one-mul, mul-le-mul-right, min-le-left, mul-add-div-right, mul-add-mod-self-right, div-eq-of-lt, mod-eq-of-lt}
-use native.Mathlib.Numerals.{add-one}
+use Prim.Native.Nat.{ℕ, suc, _+_, _-_, _*_, _/_, _%_, _≤_, _<_}
+use native.Mathlib.Nat.{add-zero, add-assoc, add-comm, zero-add, suc-mul, zero-mul, one-mul, mul-le-mul-right, min-le-left, mul-add-div-right, mul-add-mod-self-right, div-eq-of-lt, mod-eq-of-lt}
 use native.Mathlib.Omega.{arith}
 use lib.Dec.{ltb}
 use lib.ListN.{length, getD, take, drop, length-take, length-drop, drop-of-length-le}

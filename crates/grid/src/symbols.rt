@@ -4,7 +4,7 @@ ghost use mathlib.Core.Bool.{true, false};
 ghost use Prim.Native.Nat.{_<_};
 ghost use lib.Dec.{eqb};
 ghost use Rattle.theory.specs.Test.{pick};
-ghost use Rattle.grid.specs.Symbols.{bitOf, wordOf, wordIn, has, setOf, symbolSet, sizeOf, lowestOf, withSymbol, withoutSymbol};
+ghost use Rattle.grid.specs.Symbols.{bitOf, wordOf, setOf, symbolSet, sizeOf, lowestOf, withSymbol, withoutSymbol};
 
 // Bit k of word i is 1 where symbol 64 i + k is in the set.
 pub struct Symbols {

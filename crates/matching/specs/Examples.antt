@@ -3,12 +3,11 @@
 use mathlib.Core.Path.{_≡_, refl, sym, _∙_, ap}
 use mathlib.Core.Bool.{true, false}
 use mathlib.Core.List.{List, [], _∷_}
-use Prim.Native.Nat.{ℕ, zero, suc, _*_, _<_}
-use native.Mathlib.Omega.{arith}
+use Prim.Native.Nat.{ℕ, _*_}
 use lib.ListN.{getD}
 use Rattle.theory.specs.First.{first}
-use Rattle.theory.specs.Table.{table, getD-table}
-use Rattle.theory.specs.Match.{mismatchAt, earliest, ends, firstEnd, Answer, matched, mismatched, mismatchEnding, answerOf, imageOf}
+use Rattle.theory.specs.Table.{getD-table}
+use Rattle.theory.specs.Match.{mismatchAt, earliest, ends, firstEnd, Answer, matched, mismatched, mismatchEnding, answerOf}
 use Rattle.theory.specs.Match.Ext.{answer-ext}
 use Rattle.grid.specs.Windows.{windowAt, windowCells, cells-table, example-text, example-cells}
 use Rattle.matching.specs.Compare.{patternAt}

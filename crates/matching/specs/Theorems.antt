@@ -4,14 +4,14 @@
 -- Assumes nothing.
 use mathlib.Core.Path.{_≡_, refl, sym, _∙_, ap, subst}
 use mathlib.Core.Bool.{Bool, true, false}
-use mathlib.Core.List.{List, [], _∷_}
+use mathlib.Core.List.{List}
 use mathlib.Core.Logic.{_↔_}
-use Prim.Native.Nat.{ℕ, zero, suc, _*_, _≤_, _<_}
+use Prim.Native.Nat.{ℕ, zero, suc, _*_, _<_}
 use native.Mathlib.Omega.{arith}
 use lib.ListN.{length, getD}
 use Rattle.theory.specs.Test.{pick}
-use Rattle.theory.specs.Match.{Maps, Matches, Mismatch, Answer, matched, mismatched, answerOf, imageOf}
-use Rattle.theory.specs.Match.Even.{Even, even-carries, even-swap, maps-even, no-image}
+use Rattle.theory.specs.Match.{Matches, Mismatch, Answer, matched, mismatched, answerOf, imageOf}
+use Rattle.theory.specs.Match.Even.{even-carries, even-swap, maps-even, no-image}
 use Rattle.theory.specs.Match.Answers.{LeastMismatch, match-iff, mismatch-iff, no-mismatch-iff}
 use Rattle.theory.specs.Match.Images.{column-at, columns-agree}
 use Rattle.theory.specs.Columns.{Agree}

@@ -129,7 +129,7 @@ fn scan(
 }
 
 // The window's symbol at one position.
-fn symbol_at(text: &[u8], v: WindowPlace, p: usize) -> u8
+pub fn symbol_at(text: &[u8], v: WindowPlace, p: usize) -> u8
     requires { ⌜ Placed (now text) v × (p < cellsOf v) ⌝ }
     ensures { λ r. ⌜ r ≡ windowOf (now (text .entry)) v p ⌝ }
 {
@@ -137,7 +137,7 @@ fn symbol_at(text: &[u8], v: WindowPlace, p: usize) -> u8
 }
 
 // The first position that mismatches with the position later, or later where none does.
-fn earlier_cell(text: &[u8], v: WindowPlace, pattern: &[u8], later: usize) -> usize
+pub fn earlier_cell(text: &[u8], v: WindowPlace, pattern: &[u8], later: usize) -> usize
     requires { ⌜ Placed (now text) v × (length (now pattern) ≡ cellsOf v) × (later < cellsOf v) ⌝ }
     ensures { λ r. ⌜ r ≡ earliest (patternAt (now (pattern .entry))) (windowOf (now (text .entry)) v) later ⌝ }
 {

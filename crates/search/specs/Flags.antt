@@ -45,9 +45,9 @@ windowFlag text columns pattern height width k = pick (isMatch (answerAt text co
 
 -- What the inner functions' contracts cite.
 
--- a link d of position p leads out of the window or to a position with the same symbol in the pattern
+-- a link d of position p leads out of the window or to a position with the same symbol in the pattern; 0, no link, leads to p itself
 abbrev pub linkAgrees : (ℕ → ℕ) → ℕ → ℕ → Bool
-linkAgrees m p d = pick (eqb d 0) true (pick (ltb p d) true (eqb (m (p - d)) (m p)))
+linkAgrees m p d = pick (ltb p d) true (eqb (m (p - d)) (m p))
 
 -- the links l of all positions do
 unfoldable pub linksAgree : (ℕ → ℕ) → (ℕ → ℕ) → ℕ → Bool
@@ -62,14 +62,19 @@ unfoldable pub flagFrom : List ℕ → ℕ → Shape → List ℕ → List ℕ �
 flagFrom pattern symbols s counts links k =
     flagBy (patternAt pattern) symbols (getD counts k 0) (λ p. getD links (cornerRow (across s) k * s .width + p) 0) (length pattern)
 
--- sides that were not refused, a strip of the text, and buffers with room for all windows and all positions of the strip
-pub record StripRoom (s : Shape) (left cells counts links flags : ℕ) : Type 0 where
-  pub sides : ShapeOf s (s .rows * s .columns)
-  pub strip : left < across s
-  pub pattern-is : cells ≡ s .height * s .width
+-- sides that were not refused, and buffers with room for all windows and all positions of a strip: links, counts and flags are their lengths
+pub record Room (cells patternCells : ℕ) (s : Shape) (links counts flags : ℕ) : Type 0 where
+  pub shape : ShapeOf s cells
+  pub size : patternCells ≡ s .height * s .width
+  pub links-room : s .rows * s .width ≤ links
   pub counts-room : down s * across s ≤ counts
   pub flags-room : down s * across s ≤ flags
-  pub links-room : s .rows * s .width ≤ links
+
+-- a pattern is small
+pub pattern-small : (cells patternCells : ℕ) (s : Shape) (links counts flags : ℕ) → Room cells patternCells s links counts flags → patternCells ≤ 65025
+pattern-small cells patternCells s links counts flags r =
+    let v = r .shape in
+    omega (arith, r .size, product-le (s .height) (s .width) 255 255 (omega arith) (omega arith))
 
 -- ---- a strip
 
@@ -97,30 +102,29 @@ abbrev AgreesAt : (ℕ → ℕ) → ℕ → ℕ → Type 0
 AgreesAt m p d = 0 < d → d ≤ p → m (p - d) ≡ m p
 
 agrees-tested : (m : ℕ → ℕ) (p d : ℕ) → Tested (AgreesAt m p d) (linkAgrees m p d)
-agrees-tested m p d = go (eq-tested d 0) (lt-tested p d) (eq-tested (m (p - d)) (m p))
+agrees-tested m p d = go (lt-tested p d) (eq-tested (m (p - d)) (m p))
   where
-    go : {a b c : Bool} → Tested (d ≡ 0) a → Tested (p < d) b → Tested (m (p - d) ≡ m p) c
-        → Tested (0 < d → d ≤ p → m (p - d) ≡ m p) (pick a true (pick b true c))
-    go (holds e) b c = holds (λ h k. absurd (omega arith))
-    go (fails e) (holds h) c = holds (λ _ k. absurd (omega arith))
-    go (fails e) (fails h) (holds s) = holds (λ _ _. s)
-    go (fails e) (fails h) (fails s) = fails (λ f. s (f (omega arith) (omega arith)))
+    same : {a : Bool} → Tested (d ≡ 0) a → d ≤ p → AgreesAt m p d → m (p - d) ≡ m p
+    same (holds e) h f = ap m (omega arith)
+    same (fails e) h f = f (omega arith) h
+
+    go : {a b : Bool} → Tested (p < d) a → Tested (m (p - d) ≡ m p) b → Tested (0 < d → d ≤ p → m (p - d) ≡ m p) (pick a true b)
+    go (holds h) b = holds (λ _ k. absurd (omega arith))
+    go (fails h) (holds e) = holds (λ _ _. e)
+    go (fails h) (fails n) = fails (λ f. n (same (eq-tested d 0) (omega arith) f))
 
 pub links-agree-tested : (m l : ℕ → ℕ) (n : ℕ) → Tested ((p : ℕ) → p < n → 0 < l p → l p ≤ p → m (p - l p) ≡ m p) (linksAgree m l n)
 unfolding linksAgree
 links-agree-tested m l n = every-tested {Q = λ p. AgreesAt m p (l p)} (λ p. linkAgrees m p (l p)) n (λ p. agrees-tested m p (l p))
 
--- ---- one link, by its three cases
+-- ---- one link, by its two cases
 
 module _ (m : ℕ → ℕ) (p d : ℕ) where
-  pub agrees-unlinked : d ≡ 0 → true ≡ linkAgrees m p d
-  agrees-unlinked e = rw e
+  pub agrees-outside : p < d → true ≡ linkAgrees m p d
+  agrees-outside h = rw (lt-ltb p d h)
 
-  pub agrees-outside : (d ≡ 0 → ⊥) → p < d → true ≡ linkAgrees m p d
-  agrees-outside n h = rw (ne-eqb d 0 n, lt-ltb p d h)
-
-  pub agrees-inside : (d ≡ 0 → ⊥) → d ≤ p → eqb (m (p - d)) (m p) ≡ linkAgrees m p d
-  agrees-inside n h = rw (ne-eqb d 0 n, le-ltb p d h)
+  pub agrees-inside : d ≤ p → eqb (m (p - d)) (m p) ≡ linkAgrees m p d
+  agrees-inside h = rw (le-ltb p d h)
 
 -- ---- what the loop over the positions shows
 
@@ -183,7 +187,7 @@ flag-right m w s base n symbols count l is a b links = ap (λ (t : Bool). pick t
     known : Tested (Matches m w n) (both (eqb count symbols) (linksAgree m l n))
     known = tested-iff there back (both-tested (eq-tested count symbols) (links-agree-tested m l n))
 
--- demand 2's first half: a flag is 1 exactly if the pattern matches
+-- a flag is 1 exactly if the pattern matches
 pub flag-one : (text : List ℕ) (columns : ℕ) (pattern : List ℕ) (height width row column : ℕ) → column < corners columns width
     → (windowFlag text columns pattern height width (row * corners columns width + column) ≡ 1)
     ↔ Matches (patternAt pattern) (windowAt text columns row column width) (height * width)

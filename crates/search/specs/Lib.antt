@@ -1,2 +1,5 @@
 pub mod Observations
 pub mod Flags
+pub mod Listing
+pub mod Search
+pub mod Theorems

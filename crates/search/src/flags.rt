@@ -4,27 +4,24 @@ ghost use Prim.Native.Nat.{_+_, _-_, _*_, _≤_, _<_};
 ghost use lib.ListN.{length, getD};
 ghost use Rattle.theory.specs.Test.{Tested};
 ghost use Rattle.theory.specs.Store.{stored, storedRows};
+ghost use Rattle.grid.specs.Refusals.{bufferAfter};
 ghost use Rattle.grid.specs.Counts.{ShapeOf, across, down, countsAfter};
 ghost use Rattle.grid.specs.Distinct.{distinct};
 ghost use Rattle.theory.specs.Table.{table};
 ghost use Rattle.matching.specs.Compare.{patternAt};
-ghost use Rattle.search.specs.Flags.{linkAgrees, linksAgree, flagBy, flagFrom, StripRoom};
+ghost use Rattle.search.specs.Flags.{linkAgrees, linksAgree, flagBy, flagFrom, Room};
 ghost use Rattle.search.specs.Flags.Strips.{flagOf, LinksAre, Wanted, Ready};
 ghost use Rattle.search.specs.Flags.Links.{Kept};
-ghost use Rattle.search.specs.Flags.Steps.{over, Room};
 use grid::counts::Shape;
 use grid::counts::distinct_counts;
 use grid::strips::strip_links;
 use grid::symbols::symbols_of;
 
-// Whether the link of a position leads out of the window, or to a position with the same symbol in the pattern.
+// Whether the link of a position leads out of the window, or to a position with the same symbol in the pattern. No link, 0, leads to the position itself.
 fn link_agrees(pattern: &[u8], p: usize, d: usize) -> bool
     requires { ⌜ p < length (now pattern) ⌝ }
     ensures { λ r. ⌜ r ≡ linkAgrees (patternAt (now (pattern .entry))) p d ⌝ }
 {
-    if d == 0 {
-        return true;
-    }
     if p < d {
         return true;
     }
@@ -70,14 +67,14 @@ fn flag_strip(
     links: &[u16],
     flags: &mut [u8],
 )
-    requires { ⌜ StripRoom s left (length (now pattern)) (length (now counts)) (length (now links)) (length (now flags)) ⌝ }
+    requires { ⌜ Room (s .rows * s .columns) (length (now pattern)) s (length (now links)) (length (now counts)) (length (now flags)) × (left < across s) ⌝ }
     ensures { λ r. ⌜ now (flags .exit) ≡ stored (flagFrom (now (pattern .entry)) symbols s (now (counts .entry)) (now (links .entry))) (λ top. top * across s + left) (down s) (now (flags .entry)) ⌝ }
 {
-    let width = s.columns + 1 - s.width;
-    let height = s.rows + 1 - s.height;
+    let across = s.columns + 1 - s.width;
+    let down = s.rows + 1 - s.height;
     let mut top = 0;
-    while top < height {
-        let k = top * width + left;
+    while top < down {
+        let k = top * across + left;
         flags[k] = flag(pattern, symbols, counts[k], links, top * s.width);
         top += 1;
     }
@@ -88,11 +85,11 @@ fn wanted(symbols: u16, s: Shape, left: usize, counts: &[u16]) -> bool
     requires { ⌜ ShapeOf s (s .rows * s .columns) × (left < across s) × (down s * across s ≤ length (now counts)) ⌝ }
     ensures { λ r. ⌜ Tested (Wanted symbols s left (now (counts .entry))) r ⌝ }
 {
-    let width = s.columns + 1 - s.width;
-    let height = s.rows + 1 - s.height;
+    let across = s.columns + 1 - s.width;
+    let down = s.rows + 1 - s.height;
     let mut top = 0;
-    while top < height {
-        if counts[top * width + left] == symbols {
+    while top < down {
+        if counts[top * across + left] == symbols {
             return true;
         }
         top += 1;
@@ -145,9 +142,9 @@ fn flag_windows(
     ensures { λ r. ⌜ now (flags .exit) ≡ storedRows (flagOf (now (text .entry)) (now (pattern .entry)) s) (λ left top. top * across s + left) (across s) (down s) (now (flags .entry)) ⌝ }
     ensures { λ r. ⌜ Kept (s .rows * s .width) (now (links .entry)) (now (links .exit)) ⌝ }
 {
-    let width = s.columns + 1 - s.width;
+    let across = s.columns + 1 - s.width;
     let mut left = 0;
-    while left < width {
+    while left < across {
         flag_column(text, pattern, symbols, s, left, counts, links, flags);
         left += 1;
     }
@@ -166,7 +163,7 @@ fn clear(links: &mut [u16], n: usize)
 }
 
 // How many different symbols the pattern has.
-fn pattern_size(pattern: &[u8]) -> u16
+pub fn pattern_size(pattern: &[u8]) -> u16
     requires { ⌜ length (now pattern) ≤ 65025 ⌝ }
     ensures { λ r. ⌜ r ≡ distinct (now (pattern .entry)) ⌝ }
 {
@@ -184,8 +181,8 @@ pub fn flag_all(
 )
     requires { ⌜ Room (length (now text)) (length (now pattern)) s (length (now links)) (length (now counts)) (length (now flags)) ⌝ }
     ensures { λ r. ⌜ now (counts .exit) ≡ countsAfter (now (text .entry)) (s .rows) (s .columns) (s .height) (s .width) (now (counts .entry)) ⌝ }
-    ensures { λ r. ⌜ now (flags .exit) ≡ over (table (flagOf (now (text .entry)) (now (pattern .entry)) s) (down s * across s)) (now (flags .entry)) ⌝ }
-    ensures { λ r. ⌜ now (links .exit) ≡ over (table (λ p. 0) (s .rows * s .width)) (now (links .entry)) ⌝ }
+    ensures { λ r. ⌜ now (flags .exit) ≡ bufferAfter 0 (table (flagOf (now (text .entry)) (now (pattern .entry)) s) (down s * across s)) (now (flags .entry)) ⌝ }
+    ensures { λ r. ⌜ now (links .exit) ≡ bufferAfter 0 (table (λ p. 0) (s .rows * s .width)) (now (links .entry)) ⌝ }
 {
     let symbols = pattern_size(pattern);
     distinct_counts(text, s.rows, s.columns, s.height, s.width, counts);

@@ -1,10 +1,10 @@
 -- How many numbers below a bound pass a test, and which.
 -- Assumes nothing.
 use mathlib.Core.Path.{_≡_, refl, sym, _∙_, ap, subst}
-use mathlib.Core.Bool.{Bool, true, false}
+use mathlib.Core.Bool.{Bool, true, false, not}
 use mathlib.Core.Logic.{_⊎_, inl, inr, _↔_}
 use mathlib.Core.List.{List, [], _∷_, _++_, append-nil}
-use Prim.Native.Nat.{ℕ, zero, suc, _+_, _<_}
+use Prim.Native.Nat.{ℕ, zero, suc, _+_, _≤_, _<_}
 use native.Mathlib.Decide.{ℕ-discrete, decLt}
 use native.Mathlib.Nat.{add-zero, add-suc}
 use native.Mathlib.Omega.{arith}
@@ -47,6 +47,26 @@ count-more P Q (suc n) x l a b h = go (count-more P Q n x) (ℕ-discrete n x)
     go ih (yes e) =
         rw (ap Q e ∙ b, ap P e ∙ a) (ap (λ m. m + 1) (count-ext Q P n (λ k l′. sym (h k (λ z. omega arith)))))
     go ih (no d) = rw (← (h n d), ih (omega arith) a b h) (pick-next (P n) (count P n))
+
+-- at most n pass, and those that pass and those that do not are all
+pub count-le : (P : ℕ → Bool) (n : ℕ) → count P n ≤ n
+unfolding count
+count-le P zero = omega arith
+count-le P (suc n) = go (count-le P n) (P n)
+  where
+    go : count P n ≤ n → (b : Bool) → pick b (count P n + 1) (count P n) ≤ suc n
+    go ih true = omega arith
+    go ih false = omega arith
+
+pub count-not : (P : ℕ → Bool) (n : ℕ) → count P n + count (λ k. not (P k)) n ≡ n
+unfolding count
+count-not P zero = refl
+count-not P (suc n) = go (count-not P n) (P n)
+  where
+    go : count P n + count (λ k. not (P k)) n ≡ n → (b : Bool)
+        → pick b (count P n + 1) (count P n) + pick (not b) (count (λ k. not (P k)) n + 1) (count (λ k. not (P k)) n) ≡ suc n
+    go ih true = omega arith
+    go ih false = omega arith
 
 pub length-members : (P : ℕ → Bool) (n : ℕ) → length (members P n) ≡ count P n
 unfolding count members

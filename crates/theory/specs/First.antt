@@ -1,13 +1,13 @@
 -- The least number below a bound that passes a test: one notion of search for links, last places, mismatches and members of a set.
 -- Assumes nothing.
-use mathlib.Core.Path.{_≡_, refl, sym, _∙_, ap}
+use mathlib.Core.Path.{_≡_, refl, _∙_}
 use mathlib.Core.Bool.{Bool, true, false, not}
-use Prim.Native.Nat.{ℕ, zero, suc, _+_, _≤_, _<_, zero-le, suc-le-suc}
+use Prim.Native.Nat.{ℕ, zero, suc, _≤_, _<_, zero-le, suc-le-suc}
 use native.Mathlib.Omega.{arith}
 use native.Mathlib.Nat.{le-of-suc-le-suc}
 use lib.Dec.{eqb}
 use borrow.Author.Tests.{not-false}
-use Rattle.theory.specs.Test.{pick, true-false, Tested, tested-iff, eq-tested, not-tested, says-true, says-false, is-false}
+use Rattle.theory.specs.Test.{pick, true-false, Tested, tested-iff, eq-tested, not-tested, says-true, is-false}
 
 -- the least k below n with P k, or n where there is none
 unfoldable pub first : (ℕ → Bool) → ℕ → ℕ

@@ -42,7 +42,7 @@ pub record Mismatch (side : Bool) (m w : ℕ → ℕ) (q p : ℕ) : Type 0 where
 abbrev pub mismatchBy : ℕ → ℕ → ℕ → ℕ → Bool
 mismatchBy a b x y = pick (eqb a b) (not (eqb x y)) (eqb x y)
 
--- the positions q and p are
+-- the test of the positions q and p; p comes first, since the search for an earlier position goes by q
 unfoldable pub mismatchAt : (ℕ → ℕ) → (ℕ → ℕ) → ℕ → ℕ → Bool
 mismatchAt m w p q = mismatchBy (m q) (m p) (w q) (w p)
 

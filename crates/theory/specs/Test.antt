@@ -4,9 +4,8 @@ use mathlib.Core.Path.{_≡_, refl, sym, _∙_, ap}
 use mathlib.Core.Bool.{Bool, true, false, not, true≢false}
 use mathlib.Core.Logic.{_⊎_, inl, inr}
 use Prim.Native.Nat.{ℕ, _≤_, _<_}
-use native.Mathlib.Omega.{arith}
 use lib.Dec.{eqb, ltb, leb}
-use borrow.Author.Tests.{lt-ltb, ltb-true, le-leb, leb-true, eqb-true, eqb-false}
+use borrow.Author.Tests.{lt-ltb, ltb-true, le-leb, leb-true, eqb-true}
 
 -- a where the test passes, else b
 abbrev pub pick {ℓ} : {A : Type ℓ} → Bool → A → A → A

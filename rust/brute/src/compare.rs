@@ -1,4 +1,4 @@
-//! "One window" by brute force: every pair of cells is looked at.
+//! "One window" by brute force: each cell is compared with all before it.
 
 use crate::bijections::{columns_of, Columns};
 use crate::{cells, first_refusal, product, some_side_is_bad};
@@ -39,25 +39,38 @@ pub fn one_window(
         return (number, [0; 3], columns_of(&nothing));
     }
     let window = cells(text, columns, row, column, height, width);
-    if let Some(found) = clash(pattern, &window) {
-        return (0, found, columns_of(&nothing));
+    match pairs_or_clash(pattern, &window) {
+        Ok(pairs) => (0, [0; 3], columns_of(&pairs)),
+        Err(found) => (0, found, columns_of(&nothing)),
     }
-    let pairs = pattern.iter().copied().zip(window).collect();
-    (0, [0; 3], columns_of(&pairs))
 }
 
-/// "The later cell of the clash is the first at which any clash ends; the earlier is then the first that clashes with it." Kind 3 is
-/// "alike in the motif only", kind 4 "alike in the window only".
-fn clash(pattern: &[u8], window: &[u8]) -> Option<[usize; 3]> {
+/// The pairs of motif number and window number, cell by cell, or else the clash: "the later cell of the clash is the first at which any
+/// clash ends; the earlier is then the first that clashes with it".
+///
+/// A cell whose pair stood in a cell before is alike with that cell on both sides, so it clashes with just what that cell clashes with.
+/// Up to here nothing clashes, and so no clash ends in it.
+fn pairs_or_clash(pattern: &[u8], window: &[u8]) -> Result<BTreeSet<(u8, u8)>, [usize; 3]> {
+    let mut pairs = BTreeSet::new();
     for later in 0..pattern.len() {
-        for earlier in 0..later {
-            let in_pattern = pattern[earlier] == pattern[later];
-            let in_window = window[earlier] == window[later];
-            match (in_pattern, in_window) {
-                (true, false) => return Some([3, earlier, later]),
-                (false, true) => return Some([4, earlier, later]),
-                _ => (),
+        if pairs.insert((pattern[later], window[later])) {
+            if let Some(found) = clash_ending(pattern, window, later) {
+                return Err(found);
             }
+        }
+    }
+    Ok(pairs)
+}
+
+/// The first cell that clashes with this later one. Kind 3 is "alike in the motif only", kind 4 "alike in the window only".
+fn clash_ending(pattern: &[u8], window: &[u8], later: usize) -> Option<[usize; 3]> {
+    for earlier in 0..later {
+        let in_pattern = pattern[earlier] == pattern[later];
+        let in_window = window[earlier] == window[later];
+        match (in_pattern, in_window) {
+            (true, false) => return Some([3, earlier, later]),
+            (false, true) => return Some([4, earlier, later]),
+            _ => (),
         }
     }
     None
@@ -85,6 +98,11 @@ mod tests {
         );
     }
 
+    /// Every pair of cells is looked at.
+    fn clash(pattern: &[u8], window: &[u8]) -> Option<[usize; 3]> {
+        (0..pattern.len()).find_map(|later| clash_ending(pattern, window, later))
+    }
+
     #[test]
     fn one_row_drafts() {
         assert_eq!(clash(&[5], &[5]), None);
@@ -93,6 +111,26 @@ mod tests {
         assert_eq!(clash(&[1, 2, 1], &[4, 5, 5]), Some([3, 0, 2]));
         assert_eq!(clash(&[1, 2, 2], &[4, 5, 4]), Some([4, 0, 2]));
         assert_eq!(clash(&[1, 2], &[2, 1]), None);
+    }
+
+    /// Every list of five symbols from 0, 1 and 2.
+    fn lists_of_five() -> Vec<[u8; 5]> {
+        let digit = |number: u32, place| (number / 3u32.pow(place) % 3) as u8;
+        (0..3u32.pow(5))
+            .map(|number| [0, 1, 2, 3, 4].map(|place| digit(number, place)))
+            .collect()
+    }
+
+    /// No cell whose pair stood before is where the first clash ends.
+    #[test]
+    fn repeated_pairs_end_no_clash() {
+        for pattern in lists_of_five() {
+            for window in lists_of_five() {
+                let pairs = pattern.into_iter().zip(window).collect();
+                let expected = clash(&pattern, &window).map_or(Ok(pairs), Err);
+                assert_eq!(pairs_or_clash(&pattern, &window), expected);
+            }
+        }
     }
 
     #[test]

@@ -6,11 +6,15 @@
 
 mod bijections;
 mod compare;
+mod listing;
+mod search;
 
 pub use bijections::{compose, invert, pair, Columns};
 pub use compare::one_window;
+pub use listing::read;
+pub use search::{search, Buffers};
 
-use std::collections::{BTreeSet, HashSet};
+use std::collections::BTreeSet;
 
 /// The number of the first condition that holds, or 0: "each is given when its condition holds and no earlier one does".
 fn first_refusal(conditions: &[(u8, bool)]) -> u8 {
@@ -31,7 +35,7 @@ fn product(a: usize, b: usize) -> u128 {
 }
 
 /// The buffer with new values in its first places, and the rest as it was.
-fn with_first(new: Vec<u16>, buffer: &[u16]) -> Vec<u16> {
+fn with_first<T: Copy>(new: Vec<T>, buffer: &[T]) -> Vec<T> {
     [&new, &buffer[new.len()..]].concat()
 }
 
@@ -74,13 +78,14 @@ pub fn distinct_counts(
     width: usize,
     counts: &[u16],
 ) -> (u8, Vec<u16>) {
-    let down = rows as i128 - height as i128 + 1;
-    let across = columns as i128 - width as i128 + 1;
     let number = first_refusal(&[
         (2, some_side_is_bad(&[rows, columns, height, width])),
         (3, text.len() as u128 != product(rows, columns)),
         (4, height > rows || width > columns),
-        (10, (counts.len() as i128) < down.saturating_mul(across)),
+        (
+            10,
+            (counts.len() as i128) < windows(rows, columns, height, width),
+        ),
     ]);
     if number != 0 {
         return (number, counts.to_vec());
@@ -88,13 +93,21 @@ pub fn distinct_counts(
     let mut new = Vec::new();
     for row in 0..=rows - height {
         for column in 0..=columns - width {
-            let different: HashSet<u8> = cells(text, columns, row, column, height, width)
-                .into_iter()
-                .collect();
-            new.push(different.len() as u16);
+            let mut occurs = [false; 256];
+            for symbol in cells(text, columns, row, column, height, width) {
+                occurs[usize::from(symbol)] = true;
+            }
+            new.push(occurs.iter().filter(|&&occurs| occurs).count() as u16);
         }
     }
     (0, with_first(new, counts))
+}
+
+/// "The number of windows", of a size that fits into the text.
+fn windows(rows: usize, columns: usize, height: usize, width: usize) -> i128 {
+    let down = rows as i128 - height as i128 + 1;
+    let across = columns as i128 - width as i128 + 1;
+    down.saturating_mul(across)
 }
 
 /// The cells of the `height` by `width` part of a text at a corner, row by row.
@@ -108,9 +121,8 @@ fn cells(
 ) -> Vec<u8> {
     let mut found = Vec::new();
     for i in 0..height {
-        for j in 0..width {
-            found.push(text[(row + i) * columns + column + j]);
-        }
+        let first = (row + i) * columns + column;
+        found.extend(&text[first..first + width]);
     }
     found
 }

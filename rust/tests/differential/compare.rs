@@ -20,24 +20,11 @@ struct Input {
     noise: u16,
 }
 
-/// More cells than this make the brute force, which looks at every pair of them, slow.
-const MOST_CELLS: usize = 1024;
-
-/// The sides of a window that lies in a text.
-fn window_sides(random: &mut Random, rows: usize, columns: usize) -> (usize, usize) {
-    loop {
-        let (height, width) = (random.part(rows), random.part(columns));
-        if height * width <= MOST_CELLS {
-            return (height, width);
-        }
-    }
-}
-
 impl Input {
     /// A text, and a pattern for a window that lies in it. The two have nothing to do with each other.
     fn unrelated(random: &mut Random) -> Input {
         let (rows, columns) = random.sides();
-        let (height, width) = window_sides(random, rows, columns);
+        let (height, width) = (random.part(rows), random.part(columns));
         Input {
             text: random.text(rows * columns),
             rows,

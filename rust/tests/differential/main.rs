@@ -5,6 +5,8 @@ mod compare;
 mod counts;
 mod links;
 mod random;
+mod reader;
+mod search;
 mod symbols;
 mod windows;
 
@@ -27,8 +29,17 @@ struct Operation<Input, Answer> {
 impl<Input: Debug, Answer: PartialEq + Debug> Operation<Input, Answer> {
     /// Compares the two on every case, and counts the cases by what `kind` makes of their answer.
     fn compare<Kind: Ord>(&self, kind: fn(&Answer) -> Kind) -> BTreeMap<Kind, u64> {
+        self.compare_on(CASES, |_, answer| kind(answer))
+    }
+
+    /// Compares the two on that many cases, and counts them by what `kind` makes of their input and their answer.
+    fn compare_on<Kind: Ord>(
+        &self,
+        cases: u64,
+        kind: impl Fn(&Input, &Answer) -> Kind,
+    ) -> BTreeMap<Kind, u64> {
         let mut kinds = BTreeMap::new();
-        for case in 0..CASES {
+        for case in 0..cases {
             let input = (self.input)(&mut Random::of_case(self.name, case));
             let proved = (self.proved)(&input);
             let brute = (self.brute)(&input);
@@ -37,22 +48,38 @@ impl<Input: Debug, Answer: PartialEq + Debug> Operation<Input, Answer> {
                 "{}: seed {SEED:#x}, case {case}\n  input: {input:?}\n  proved code: {proved:?}\n  brute force: {brute:?}",
                 self.name
             );
-            *kinds.entry(kind(&brute)).or_insert(0) += 1;
+            *kinds.entry(kind(&input, &brute)).or_insert(0) += 1;
         }
         kinds
     }
 }
 
-/// Fails unless each of these kinds of answer, and no other, came up often enough for the comparison to say something of it.
+/// Fails unless each of these kinds of answer, and no other, came up often enough for the comparison to say something of it: in a
+/// hundredth of all cases.
 fn assert_met<Kind: Copy + PartialEq + Debug>(met: &BTreeMap<Kind, u64>, kinds: &[Kind]) {
     let seen: Vec<Kind> = met.keys().copied().collect();
     assert_eq!(seen, kinds, "the kinds of answer that the inputs had");
+    let all: u64 = met.values().sum();
     for (kind, cases) in met {
         assert!(
-            *cases >= CASES / 100,
+            *cases >= all / 100,
             "only {cases} inputs had an answer of kind {kind:?}"
         );
     }
+}
+
+/// The cases counted by a part of their kind, those left out that have none.
+fn by_part<Kind, Part: Ord>(
+    met: &BTreeMap<Kind, u64>,
+    part: impl Fn(&Kind) -> Option<Part>,
+) -> BTreeMap<Part, u64> {
+    let mut parts = BTreeMap::new();
+    for (kind, cases) in met {
+        if let Some(part) = part(kind) {
+            *parts.entry(part).or_insert(0) += cases;
+        }
+    }
+    parts
 }
 
 /// The number of an operation's outcome.

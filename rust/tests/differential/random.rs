@@ -71,6 +71,11 @@ impl Random {
         (0..length).map(|_| self.next() as u16).collect()
     }
 
+    /// A buffer of noise, of bytes.
+    pub fn bytes(&mut self, length: usize) -> Vec<u8> {
+        (0..length).map(|_| self.byte()).collect()
+    }
+
     /// The rows and columns of a text: mostly few, sometimes as many as can be.
     pub fn sides(&mut self) -> (usize, usize) {
         match self.below(100) {
@@ -130,6 +135,11 @@ impl Random {
             2..=8 => needed + self.between(1, 9),
             _ => needed,
         }
+    }
+
+    /// The length of a buffer that has the `needed` entries, and sometimes more.
+    pub fn enough(&mut self, needed: usize) -> usize {
+        needed + self.choose(&[0, 0, 1, 9, 300])
     }
 
     /// Takes cells from a text or adds some, once in a while.

@@ -4,7 +4,7 @@ use mathlib.Core.Path.{_≡_, refl, sym, ap, _∙_}
 use mathlib.Core.Bool.{true, false}
 use mathlib.Core.Logic.{_↔_}
 use mathlib.Core.List.{List, [], _∷_}
-use Prim.Native.Nat.{ℕ, zero, suc, _<_}
+use Prim.Native.Nat.{ℕ, zero, suc, _≤_, _<_}
 use native.Mathlib.Decide.{decLt}
 use native.Mathlib.Omega.{arith}
 use lib.Dec.{eqb}
@@ -12,7 +12,7 @@ use lib.ListN.{length}
 use borrow.Author.Tests.{eq-eqb, ne-eqb}
 use Rattle.theory.specs.Test.{pick, pick-true, pick-false}
 use Rattle.theory.specs.First.{First, first-spec}
-use Rattle.theory.specs.Count.{count, members, count-none, length-members, members-least, members-iff, members-rising, Entry, Rising}
+use Rattle.theory.specs.Count.{count, members, count-none, members-none, length-members, members-least, members-iff, members-rising, Entry, Rising}
 use Rattle.grid.specs.declared.symbols.Symbols.{Symbols}
 use Rattle.grid.specs.Symbols.{has, sizeOf, lowestOf, withoutSymbol, taken}
 use Rattle.grid.specs.Symbols.Blocks.{has-set}
@@ -32,7 +32,7 @@ lowest-below s n e = go (decLt (lowestOf s) 256)
         absurd (let none : count (has s) 256 ≡ 0 = count-none (has s) 256 (λ k l. first-spec (has s) 256 .before k (omega arith)) in omega arith)
 
 -- the lowest symbol, and then those of the set without it
-members-lowest : (s : Symbols) → lowestOf s < 256 → members (has s) 256 ≡ lowestOf s ∷ members (has (withoutSymbol s (lowestOf s))) 256
+pub members-lowest : (s : Symbols) → lowestOf s < 256 → members (has s) 256 ≡ lowestOf s ∷ members (has (withoutSymbol s (lowestOf s))) 256
 members-lowest s l =
     members-least (has s) (has (withoutSymbol s (lowestOf s))) 256 (lowestOf s) l (spec .hit l) (spec .before)
     (without (lowestOf s) l ∙ pick-true false (has s (lowestOf s)) (eq-eqb (lowestOf s) (lowestOf s) refl))
@@ -43,6 +43,10 @@ members-lowest s l =
 
     without : (v : ℕ) → v < 256 → has (withoutSymbol s (lowestOf s)) v ≡ pick (eqb v (lowestOf s)) false (has s v)
     without v h = has-set (λ u. pick (eqb u (lowestOf s)) false (has s u)) v h
+
+-- and where there is no lowest one, there is none
+pub members-over : (s : Symbols) → 256 ≤ lowestOf s → members (has s) 256 ≡ []
+members-over s h = members-none (has s) 256 (λ k l. first-spec (has s) 256 .before k (omega arith))
 
 -- taking one out leaves one less
 size-without : (s : Symbols) (n : ℕ) → sizeOf s ≡ suc n → sizeOf (withoutSymbol s (lowestOf s)) ≡ n

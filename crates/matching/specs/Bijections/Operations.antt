@@ -1,16 +1,16 @@
 -- The laws of bijections said of the operations, refused or not: inverting twice gives the bijection back, pairing the same pair again is accepted
 -- and changes nothing, and no operation makes columns disagree.
 -- Assumes nothing.
-use mathlib.Core.Path.{_≡_, refl, sym, _∙_, ap, subst}
-use mathlib.Core.Bool.{Bool, true, false}
-use mathlib.Core.Logic.{inl, inr}
+use mathlib.Core.Path.{_≡_, refl, sym, _∙_, ap}
+use mathlib.Core.Bool.{Bool}
+use mathlib.Core.Logic.{inr}
 use Prim.Native.Nat.{ℕ, zero, suc, _<_}
 use lib.ListN.{length, getD}
-use Rattle.theory.specs.Test.{Tested, holds, fails, is-true, is-false}
+use Rattle.theory.specs.Test.{Tested, holds, fails, is-false}
 use Rattle.theory.specs.Columns.{Agree}
 use Rattle.matching.specs.declared.bijections.Bijection.{Bijection}
-use Rattle.matching.specs.Bijections.{goodColumns, paired, inverse, composite, bijectionAfter, pairNumber, invertNumber, composeNumber, pairAfter, invertAfter, composeAfter}
-use Rattle.matching.specs.Bijections.Numbers.{good-columns, Pairable, pair-passed, pair-passes, invert-passes, invert-disagreeing, compose-passed}
+use Rattle.matching.specs.Bijections.{paired, inverse, composite, bijectionAfter, pairNumber, invertNumber, composeNumber, pairAfter, invertAfter, composeAfter}
+use Rattle.matching.specs.Bijections.Numbers.{good-columns, pair-passed, pair-passes, invert-passes, invert-disagreeing, compose-passed}
 use Rattle.matching.specs.Bijections.Laws.{paired-agrees, paired-again, inverse-agrees, inverse-inverse, composite-agrees}
 
 -- the columns of a bijection agree

@@ -1,18 +1,17 @@
 -- The question's refusals in their order, and what one that is not refused has: the window lies in the text.
 -- Assumes nothing.
-use mathlib.Core.Path.{_≡_, refl, sym, _∙_, subst}
+use mathlib.Core.Path.{_≡_, sym, _∙_, subst}
 use mathlib.Core.Bool.{Bool, true, false}
 use mathlib.Core.List.{List}
 use mathlib.Core.Logic.{_↔_}
-use Prim.Native.Nat.{ℕ, _+_, _*_, _≤_, _<_}
+use Prim.Native.Nat.{ℕ, _*_, _≤_, _<_}
 use native.Mathlib.Nat.{mul-le-mul-right}
 use native.Mathlib.Omega.{arith}
 use lib.ListN.{length}
 use Rattle.theory.specs.Test.{both, Tested, both-tested, says-true, is-true}
 use Rattle.grid.specs.Refusals.{unless}
-use Rattle.grid.specs.Shapes.{shapeThen, goodCells, good-cells, cornerInside, corner-inside, Sides, Fits, Corner, Sized, shape-number-le, shape-refused, shape-then-zero, shape-passed, shape-passes, one-passed, product-le}
-use Rattle.matching.specs.Compare.{windowNumber, Placed, cellsOf}
-use Rattle.matching.specs.declared.compare.WindowPlace.{WindowPlace}
+use Rattle.grid.specs.Shapes.{shapeThen, goodCells, good-cells, cornerInside, corner-inside, Sides, Fits, Corner, shape-number-le, shape-refused, shape-then-zero, shape-passed, shape-passes, one-passed, product-le}
+use Rattle.matching.specs.Compare.{windowNumber, Placed}
 
 module _ (cells rows columns patternCells height width row column : ℕ) where
   abbrev bothGood : Bool

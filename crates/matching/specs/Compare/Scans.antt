@@ -1,21 +1,20 @@
 -- The scan of a window, position by position, in the terms of the matching theory: what its loop keeps, and what its two ways out say.
 -- Assumes nothing.
-use mathlib.Core.Path.{_≡_, refl, sym, _∙_, ap}
+use mathlib.Core.Path.{_≡_, sym, _∙_, ap}
 use mathlib.Core.Bool.{Bool, true, false, not}
 use mathlib.Core.List.{List}
-use Prim.Native.Nat.{ℕ, zero, suc, _+_, _*_, _≤_, _<_}
+use Prim.Native.Nat.{ℕ, suc, _+_, _≤_, _<_}
 use native.Mathlib.Numerals.{add-one}
 use native.Mathlib.Omega.{arith}
-use borrow.Author.Tests.{not-false, lt-ltb, le-ltb}
-use lib.Dec.{ltb}
-use lib.ListN.{length, getD, set, replicate, length-replicate, getD-replicate}
-use Rattle.theory.specs.Test.{pick, pick-true, pick-false, Tested, holds, fails, lt-tested}
-use Rattle.theory.specs.First.{first, First, first-is, first-spec}
+use borrow.Author.Tests.{lt-ltb, le-ltb}
+use lib.ListN.{length, getD, set, length-replicate, getD-replicate}
+use Rattle.theory.specs.Test.{pick-true, pick-false, Tested, holds, fails, lt-tested}
+use Rattle.theory.specs.First.{first-is, first-spec}
 use Rattle.theory.specs.Table.{table-is}
-use Rattle.theory.specs.Match.{mismatchAt, mismatchBy, earliest, ends, firstEnd, mismatchEnding, answerOf, matched, imageOf, column}
-use Rattle.theory.specs.Match.Even.{Even, even-if, even-swap, no-image, mismatch-by}
+use Rattle.theory.specs.Match.{mismatchAt, earliest, ends, firstEnd, mismatchEnding, answerOf, matched, imageOf, column}
+use Rattle.theory.specs.Match.Even.{even-if, even-swap, no-image}
 use Rattle.theory.specs.Match.Images.{agreesBy, agrees, column-step, length-column}
-use Rattle.matching.specs.Compare.{noImages, verdictOf}
+use Rattle.matching.specs.Compare.{noImages}
 
 -- before the first position no symbol has an image
 pub column-none : (m w : ℕ → ℕ) → noImages ≡ column m w 0

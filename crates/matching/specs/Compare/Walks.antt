@@ -1,8 +1,8 @@
 -- A walk over a window's cells, row by row: from one position to the next without a division, and where it reads the text.
 -- Assumes nothing.
-use mathlib.Core.Path.{_≡_, refl, sym, _∙_, ap}
+use mathlib.Core.Path.{_≡_, sym, _∙_, ap}
 use mathlib.Core.List.{List}
-use Prim.Native.Nat.{ℕ, zero, suc, _+_, _-_, _*_, _/_, _%_, _≤_, _<_}
+use Prim.Native.Nat.{ℕ, suc, _+_, _-_, _*_, _/_, _%_, _≤_, _<_}
 use native.Mathlib.Nat.{add-zero, suc-mul, mul-le-mul-right, le-mul-of-pos-right, mul-le-mul, mod-lt, div-lt-iff-lt-mul, div-add-mod', mul-add-div-right, mul-add-mod-self-right, div-eq-of-lt, mod-eq-of-lt}
 use native.Mathlib.Omega.{arith}
 use lib.ListN.{length, getD}
@@ -19,17 +19,17 @@ place-mod : (w q r : ℕ) → r < w → (q * w + r) % w ≡ r
 place-mod w q r h = rw (mul-add-mod-self-right q w r, mod-eq-of-lt h)
 
 -- the next position in the same row, and in the row below
-next-div : (w p : ℕ) → p % w + 1 < w → (p + 1) / w ≡ p / w
+pub next-div : (w p : ℕ) → p % w + 1 < w → (p + 1) / w ≡ p / w
 next-div w p h =
     let e : p + 1 ≡ (p / w) * w + (p % w + 1) = omega (arith, div-add-mod' p w) in
     ap (λ (x : ℕ). x / w) e ∙ place-div w (p / w) (p % w + 1) h
 
-next-mod : (w p : ℕ) → p % w + 1 < w → (p + 1) % w ≡ p % w + 1
+pub next-mod : (w p : ℕ) → p % w + 1 < w → (p + 1) % w ≡ p % w + 1
 next-mod w p h =
     let e : p + 1 ≡ (p / w) * w + (p % w + 1) = omega (arith, div-add-mod' p w) in
     ap (λ (x : ℕ). x % w) e ∙ place-mod w (p / w) (p % w + 1) h
 
-below-div : (w p : ℕ) → 0 < w → w ≤ p % w + 1 → (p + 1) / w ≡ p / w + 1
+pub below-div : (w p : ℕ) → 0 < w → w ≤ p % w + 1 → (p + 1) / w ≡ p / w + 1
 below-div w p pos h =
     let e : p + 1 ≡ (p / w + 1) * w + 0 = omega (arith, div-add-mod' p w, mod-lt p pos, suc-mul (p / w) w, row-more) in
     ap (λ (x : ℕ). x / w) e ∙ place-div w (p / w + 1) 0 pos
@@ -37,7 +37,7 @@ below-div w p pos h =
     row-more : (p / w + 1) * w ≡ (p / w) * w + w
     row-more = ap (λ (x : ℕ). x * w) (omega arith) ∙ suc-mul (p / w) w
 
-below-mod : (w p : ℕ) → 0 < w → w ≤ p % w + 1 → (p + 1) % w ≡ 0
+pub below-mod : (w p : ℕ) → 0 < w → w ≤ p % w + 1 → (p + 1) % w ≡ 0
 below-mod w p pos h =
     let e : p + 1 ≡ (p / w + 1) * w + 0 = omega (arith, div-add-mod' p w, mod-lt p pos, suc-mul (p / w) w, row-more) in
     ap (λ (x : ℕ). x % w) e ∙ place-mod w (p / w + 1) 0 pos

@@ -2,37 +2,20 @@
 -- Assumes nothing.
 use mathlib.Core.Path.{_≡_, refl, sym, _∙_, ap}
 use mathlib.Core.List.{List, _++_}
-use Prim.Native.Nat.{ℕ, _+_, _-_, _*_, _≤_, _<_}
+use Prim.Native.Nat.{ℕ, _+_, _*_, _≤_, _<_}
 use native.Mathlib.Omega.{arith}
 use lib.ListN.{length, drop, List·getD-append, length-append, length-drop}
 use Rattle.theory.specs.Table.{table, length-table, getD-table}
 use Rattle.theory.specs.Store.{stored, storedRows, rows-none, rows-more, rows-all, Covers}
-use Rattle.grid.specs.Shapes.{product-le}
+use Rattle.grid.specs.Refusals.{bufferAfter}
 use Rattle.grid.specs.Counts.{ShapeOf, across, down, countOf, countsAfter, counts-accepted, counts-after, windows-covered}
 use Rattle.grid.specs.declared.counts.Shape.{Shape}
 use Rattle.search.specs.Flags.Strips.{CountsAre, flagOf}
 use Rattle.search.specs.Flags.Links.{Kept}
 
--- the first entries of a buffer are xs, the rest is as it was
-abbrev pub over : List ℕ → List ℕ → List ℕ
-over xs l = xs ++ drop (length xs) l
-
--- sides that were not refused, and buffers with room
-pub record Room (cells patternCells : ℕ) (s : Shape) (links counts flags : ℕ) : Type 0 where
-  pub shape : ShapeOf s cells
-  pub size : patternCells ≡ s .height * s .width
-  pub links-room : s .rows * s .width ≤ links
-  pub counts-room : down s * across s ≤ counts
-  pub flags-room : down s * across s ≤ flags
-
-over-table : (f : ℕ → ℕ) (n : ℕ) (l : List ℕ) → over (table f n) l ≡ table f n ++ drop n l
-over-table f n l = ap (λ (k : ℕ). table f n ++ drop k l) (length-table f n)
-
--- a pattern is small
-pub pattern-small : (cells patternCells : ℕ) (s : Shape) (links counts flags : ℕ) → Room cells patternCells s links counts flags → patternCells ≤ 65025
-pattern-small cells patternCells s links counts flags r =
-    let v = r .shape in
-    omega (arith, r .size, product-le (s .height) (s .width) 255 255 (omega arith) (omega arith))
+-- the first n entries of a buffer
+buffer-table : (f : ℕ → ℕ) (n : ℕ) (l : List ℕ) → bufferAfter 0 (table f n) l ≡ table f n ++ drop n l
+buffer-table f n l = ap (λ (k : ℕ). table f n ++ drop k l) (length-table f n)
 
 -- ---- counts
 
@@ -60,11 +43,11 @@ module _ (text : List ℕ) (s : Shape) (counts after : List ℕ) (shape : ShapeO
 
 pub flags-over : (text pattern : List ℕ) (s : Shape) (flags after : List ℕ) → 0 < across s → down s * across s ≤ length flags
     → after ≡ storedRows (flagOf text pattern s) (λ left top. top * across s + left) (across s) (down s) flags
-    → after ≡ over (table (flagOf text pattern s) (down s * across s)) flags
+    → after ≡ bufferAfter 0 (table (flagOf text pattern s) (down s * across s)) flags
 flags-over text pattern s flags after pos room e =
     e
     ∙ rows-all (flagOf text pattern s) (λ left top. top * across s + left) (down s) (across s) (down s * across s) flags (windows-covered s pos) room
-    ∙ sym (over-table (flagOf text pattern s) (down s * across s) flags)
+    ∙ sym (buffer-table (flagOf text pattern s) (down s * across s) flags)
 
 -- ---- links
 
@@ -78,8 +61,8 @@ cleared n l r h e =
     ∙ rows-all (λ p. 0) (λ i j. j) n 1 n l (one-row n) h
 
 pub links-over : (n : ℕ) (links used after : List ℕ) → n ≤ length links → Kept n links used → after ≡ stored (λ p. 0) (λ p. p) n used
-    → after ≡ over (table (λ p. 0) n) links
+    → after ≡ bufferAfter 0 (table (λ p. 0) n) links
 links-over n links used after room kept e =
     cleared n used after (omega (arith, kept .long)) e
     ∙ ap (λ (r : List ℕ). table (λ p. 0) n ++ r) (kept .behind)
-    ∙ sym (over-table (λ p. 0) n links)
+    ∙ sym (buffer-table (λ p. 0) n links)

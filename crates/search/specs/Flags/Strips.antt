@@ -1,9 +1,9 @@
--- The flags of a strip are right: what `flag_strip` writes from counts and links is the flag of each window (`strip-flags`). Where a window's count
--- is not the pattern's the links are not looked at, so a strip without such a window needs none.
+-- The flags of a strip are right: what `flag_strip` writes from counts and links is the flag of each window (`strip-flags`). The links are looked at only
+-- where a window's count is the pattern's, so a strip in which no window has that count needs none.
 -- Assumes nothing.
 use mathlib.Core.Path.{_≡_, refl, sym, _∙_, ap}
 use mathlib.Core.List.{List}
-use Prim.Native.Nat.{ℕ, zero, suc, _+_, _-_, _*_, _≤_, _<_}
+use Prim.Native.Nat.{ℕ, zero, suc, _+_, _*_, _<_}
 use native.Mathlib.Omega.{arith}
 use lib.ListN.{length, getD, set}
 use Rattle.theory.specs.Test.{pick}
@@ -16,7 +16,7 @@ use Rattle.grid.specs.Strips.{link}
 use Rattle.grid.specs.Counts.{ShapeOf, across, down, countOf, window-count, place-lt}
 use Rattle.grid.specs.declared.counts.Shape.{Shape}
 use Rattle.matching.specs.Compare.{patternAt}
-use Rattle.search.specs.Flags.{isMatch, answerAt, windowFlag, flagFrom, flag-at, flag-right, strip-part}
+use Rattle.search.specs.Flags.{Room, isMatch, answerAt, windowFlag, flagFrom, flag-at, flag-right, strip-part}
 
 -- the flag of window k
 abbrev pub flagOf : List ℕ → List ℕ → Shape → ℕ → ℕ
@@ -36,15 +36,11 @@ pub record Wanted (symbols : ℕ) (s : Shape) (left : ℕ) (counts : List ℕ) :
   pub inside : top < down s
   pub equal : getD counts (top * across s + left) 0 ≡ symbols
 
--- what the flags of every strip need: sides that were not refused, the pattern's count, the counts, and room in the buffers
+-- what the flags of every strip need: room, the pattern's count, and the counts
 pub record Ready (text pattern : List ℕ) (symbols : ℕ) (s : Shape) (counts : List ℕ) (links flags : ℕ) : Type 0 where
-  pub shape : ShapeOf s (length text)
-  pub size : length pattern ≡ s .height * s .width
+  pub room : Room (length text) (length pattern) s links (length counts) flags
   pub symbols-is : symbols ≡ distinct pattern
   pub counts-are : CountsAre text s counts
-  pub counts-room : down s * across s ≤ length counts
-  pub flags-room : down s * across s ≤ flags
-  pub links-room : s .rows * s .width ≤ links
 
 -- buffers as long as before
 pub ready-still : {text pattern : List ℕ} {symbols : ℕ} {s : Shape} {counts : List ℕ} {links flags links′ flags′ : ℕ} → Ready text pattern symbols s counts links flags

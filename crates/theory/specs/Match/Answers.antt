@@ -1,16 +1,15 @@
 -- The answer is right: a match exactly where the pattern and the window match, and else the mismatch that ends first and then begins first.
 -- Assumes nothing.
-use mathlib.Core.Path.{_≡_, refl, sym, _∙_, ap, subst}
+use mathlib.Core.Path.{_≡_, refl, subst}
 use mathlib.Core.Bool.{Bool, true, false}
 use mathlib.Core.Logic.{_↔_}
 use Prim.Native.Nat.{ℕ, _<_, _≤_}
 use native.Mathlib.Omega.{arith}
 use borrow.Author.Tests.{ltb-true}
-use lib.Dec.{ltb}
 use Rattle.theory.specs.Test.{pick, Tested, holds, fails, lt-tested}
 use Rattle.theory.specs.First.{first, First, first-spec}
 use Rattle.theory.specs.Match.{Maps, Matches, AlikeOnly, Mismatch, mismatchAt, earliest, ends, firstEnd, Answer, matched, mismatched, mismatchEnding, answerOf, imageOf}
-use Rattle.theory.specs.Match.Even.{Alike, mismatch-true, mismatch-false, ends-false, Even, even-if, maps-even, even-maps}
+use Rattle.theory.specs.Match.Even.{Alike, mismatch-true, mismatch-false, ends-false, even-if, maps-even, even-maps}
 
 module _ (m w : ℕ → ℕ) where
   pub record LeastMismatch (side : Bool) (n q p : ℕ) : Type 0 where

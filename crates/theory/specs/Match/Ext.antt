@@ -1,14 +1,13 @@
 -- The answer depends on nothing but the symbols at the positions below n.
 -- Assumes nothing.
-use mathlib.Core.Path.{_≡_, refl, sym, _∙_, ap, ap₂}
+use mathlib.Core.Path.{_≡_, refl, _∙_, ap, ap₂}
 use mathlib.Core.Bool.{Bool}
-use Prim.Native.Nat.{ℕ, _<_, _≤_}
+use Prim.Native.Nat.{ℕ, _<_}
 use native.Mathlib.Omega.{arith}
 use lib.Dec.{eqb, ltb}
 use Rattle.theory.specs.Test.{pick, Tested, holds, fails, lt-tested}
-use Rattle.theory.specs.First.{first, first-ext, first-spec}
-use Rattle.theory.specs.Match.{mismatchBy, mismatchAt, earliest, ends, firstEnd, Answer, matched, mismatched, mismatchEnding, answerOf}
-use Rattle.theory.specs.Match.Even.{earliest-le}
+use Rattle.theory.specs.First.{first-ext}
+use Rattle.theory.specs.Match.{mismatchBy, mismatchAt, earliest, ends, firstEnd, matched, mismatched, mismatchEnding, answerOf}
 
 module _ (m w x : ℕ → ℕ) (n : ℕ) (same : (p : ℕ) → p < n → w p ≡ x p) where
   earliest-ext : (p : ℕ) → p < n → earliest m w p ≡ earliest m x p

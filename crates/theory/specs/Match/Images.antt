@@ -3,15 +3,14 @@
 use mathlib.Core.Path.{_≡_, refl, sym, _∙_, ap}
 use mathlib.Core.Bool.{Bool, true, false, not}
 use mathlib.Core.Logic.{⊎-elim}
-use mathlib.Core.List.{List}
-use Prim.Native.Nat.{ℕ, zero, suc, _<_, _≤_}
+use Prim.Native.Nat.{ℕ, suc, _<_, _≤_}
 use native.Mathlib.Omega.{arith}
 use borrow.Author.Tests.{ne-eqb}
 use lib.Dec.{eqb}
 use lib.ListN.{length, getD, set, length-set}
 use lib.Seq.{ext-getD, getD-set-same, getD-set-other}
 use Rattle.theory.specs.Test.{pick, Tested, holds, fails, eq-tested, true-or-false}
-use Rattle.theory.specs.Table.{table, length-table, getD-table}
+use Rattle.theory.specs.Table.{length-table, getD-table}
 use Rattle.theory.specs.Columns.{Agree}
 use Rattle.theory.specs.Match.{ends, imageOf, column}
 use Rattle.theory.specs.Match.Even.{Alike, Even, even-if, ends-false, ends-not, Image, at, nowhere, image, even-carries, even-swap}

@@ -2,14 +2,14 @@
 -- one-to-one on the pattern's symbols or on all numbers (symbols without an image then go to numbers above the bytes).
 -- Assumes nothing.
 use mathlib.Core.Path.{_≡_, refl, sym, _∙_, ap}
-use mathlib.Core.Bool.{Bool, true, false}
+use mathlib.Core.Bool.{Bool}
 use mathlib.Core.Logic.{_↔_}
-use Prim.Native.Nat.{ℕ, _+_, _<_, _≤_}
+use Prim.Native.Nat.{ℕ, _+_, _<_}
 use native.Mathlib.Omega.{arith}
 use borrow.Author.Tests.{lt-ltb}
 use lib.Dec.{ltb}
 use Rattle.theory.specs.Test.{pick, pick-true, Tested, holds, fails, lt-tested}
-use Rattle.theory.specs.Match.{Maps, Matches, imageOf}
+use Rattle.theory.specs.Match.{Matches, imageOf}
 use Rattle.theory.specs.Match.Even.{Even, even-carries, maps-even, even-maps, even-swap, Image, at, nowhere, image}
 
 -- every sequence matches itself

@@ -1,6 +1,6 @@
 -- `one_window` fixes number, bijection and values: refused, nothing is written; accepted, each is handed over as it is.
 -- Assumes nothing.
-use mathlib.Core.Path.{_≡_, sym, _∙_}
+use mathlib.Core.Path.{sym, _∙_}
 use denote.Ref.{now}
 use Rattle.exports.specs.Compare.{window-bijection-kept, window-mismatch-kept, window-bijection-new, window-mismatch-new}
 use borrow.Author.Needs.{needs}

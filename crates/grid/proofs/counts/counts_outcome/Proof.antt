@@ -1,9 +1,9 @@
 -- `counts::counts_outcome` meets its contract: 2, 3, 4 by the shape's own check, then 10.
 -- Assumes nothing.
-use mathlib.Core.Path.{_≡_, refl, sym, ap, _∙_}
+use mathlib.Core.Path.{_≡_, sym, ap, _∙_}
 use native.Mathlib.Omega.{arith}
 use mathlib.Core.Bool.{Bool}
-use Prim.Native.Nat.{_+_, _-_, _*_, _≤_}
+use Prim.Native.Nat.{_*_, _≤_}
 use Rattle.grid.specs.Shapes.{Shaped, shapeThen, goodCells, windows, text-passed, product-le}
 use Rattle.grid.specs.Refusals.{outcomeNumber, refused-positive, accepted-zero}
 use Rattle.grid.specs.Counts.{counts-shape-refused, counts-room-refused, counts-accepted}

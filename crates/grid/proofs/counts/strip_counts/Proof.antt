@@ -1,6 +1,6 @@
 -- `counts::strip_counts` meets its contract. The invariant: the windows passed are written, and the occurrences are those of the next window.
 -- Assumes nothing.
-use mathlib.Core.Path.{_≡_, refl, sym, ap, _∙_}
+use mathlib.Core.Path.{_≡_, sym, ap, _∙_}
 use native.Mathlib.Omega.{arith}
 use Prim.Native.Nat.{_+_, _-_, _*_, _≤_, _<_}
 use native.Mathlib.Numerals.{add-one}

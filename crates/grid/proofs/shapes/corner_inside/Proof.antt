@@ -1,6 +1,6 @@
 -- `shapes::corner_inside` meets its contract: a corner is inside if its row is and its column is.
 -- Assumes nothing.
-use mathlib.Core.Path.{_≡_, refl, sym, ap, _∙_}
+use mathlib.Core.Path.{sym, _∙_}
 use borrow.Author.Tests.{not-true, not-false}
 use Rattle.theory.specs.Test.{tested-same, tested-iff, le-tested, is-false, says-true, says-false}
 use Rattle.grid.specs.Shapes.{corner-inside}

@@ -1,6 +1,6 @@
 -- `shapes::good_side` meets its contract: the two comparisons are those of a good side.
 -- Assumes nothing.
-use mathlib.Core.Path.{_≡_, refl, sym, ap, _∙_}
+use mathlib.Core.Path.{sym, _∙_}
 use native.Mathlib.Omega.{arith}
 use Rattle.theory.specs.Test.{tested-same, tested-iff, le-tested, is-false}
 use Rattle.grid.specs.Shapes.{good-side}

@@ -1,6 +1,6 @@
 -- `shapes::good_sides` meets its contract: the first bad side refuses, and where three are good the fourth decides.
 -- Assumes nothing.
-use mathlib.Core.Path.{_≡_, refl, sym, ap, _∙_}
+use mathlib.Core.Path.{sym, _∙_}
 use borrow.Author.Tests.{not-true, not-false}
 use Rattle.theory.specs.Test.{tested-same, tested-iff, is-false, says-true, says-false}
 use Rattle.grid.specs.Shapes.{good-side, good-sides}

@@ -1,6 +1,6 @@
 -- `shapes::part_inside` meets its contract: a part that is larger than the whole ends in it nowhere.
 -- Assumes nothing.
-use mathlib.Core.Path.{_≡_, refl, sym, ap, _∙_}
+use mathlib.Core.Path.{sym}
 use Prim.Native.Nat.{_+_, _-_, _≤_}
 use native.Mathlib.Omega.{arith}
 use Rattle.theory.specs.Test.{tested-same, tested-iff, le-tested, is-false}

@@ -1,6 +1,6 @@
 -- `shapes::shape_outcome` meets its contract: each guard is the test of its refusal's number.
 -- Assumes nothing.
-use mathlib.Core.Path.{_≡_, refl, sym, ap, _∙_}
+use mathlib.Core.Path.{sym, _∙_}
 use borrow.Author.Tests.{not-true, not-false}
 use Rattle.grid.specs.Shapes.{sides-refused, cells-refused, size-refused, none-refused}
 use borrow.Author.Needs.{needs}

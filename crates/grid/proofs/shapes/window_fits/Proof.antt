@@ -1,6 +1,6 @@
 -- `shapes::window_fits` meets its contract: a window fits if its height does and its width does.
 -- Assumes nothing.
-use mathlib.Core.Path.{_≡_, refl, sym, ap, _∙_}
+use mathlib.Core.Path.{sym}
 use native.Mathlib.Omega.{arith}
 use Rattle.theory.specs.Test.{tested-same, tested-iff, le-tested, is-false}
 use Rattle.grid.specs.Shapes.{fits-tested}

@@ -1,6 +1,6 @@
 -- `strips::distance` meets its contract: it is the definition, and the difference fits 16 bits since the place does.
 -- Assumes nothing.
-use mathlib.Core.Path.{_≡_, refl, sym, ap, _∙_}
+use mathlib.Core.Path.{sym}
 use borrow.Author.Tests.{eq-eqb, ne-eqb}
 use Rattle.theory.specs.Test.{pick-true, pick-false}
 use borrow.Author.Needs.{needs}

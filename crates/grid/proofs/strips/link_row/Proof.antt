@@ -1,10 +1,9 @@
 -- `strips::link_row` meets its contract. The invariant: the positions passed are linked, for every sequence that the row is a part of.
 -- Assumes nothing.
-use mathlib.Core.Path.{_≡_, refl, sym, ap, _∙_}
+use mathlib.Core.Path.{_≡_, refl}
 use native.Mathlib.Omega.{arith}
 use Prim.Native.Nat.{ℕ, _+_, _-_, _≤_, _<_}
 use lib.ListN.{length, getD, length-set}
-use borrow.Author.Needs.{needs}
 use denote.Ref.{now}
 use Rattle.grid.specs.Strips.{RowAt, LastPlaces, LinkedRow}
 use Rattle.grid.specs.Strips.Rows.{latest-le, linked-row-none, linked-row-more}

@@ -1,6 +1,6 @@
 -- `strips::strip_outcome` meets its contract: 2, 3, 4 by the shape's own check, then 5, then 9.
 -- Assumes nothing.
-use mathlib.Core.Path.{_≡_, refl, sym, ap, _∙_}
+use mathlib.Core.Path.{_≡_, sym, ap, _∙_}
 use native.Mathlib.Omega.{arith}
 use borrow.Author.Tests.{not-true, not-false}
 use mathlib.Core.Bool.{Bool}

@@ -1,8 +1,8 @@
 -- `windows::row_cells` meets its contract: the part that starts at the row's first cell, as far as the text goes.
 -- Assumes nothing.
-use mathlib.Core.Path.{_≡_, refl, sym, ap, _∙_}
+use mathlib.Core.Path.{sym}
 use native.Mathlib.Omega.{arith}
-use Prim.Native.Nat.{_+_, _*_, _≤_}
+use Prim.Native.Nat.{_*_, _≤_}
 use native.Mathlib.Nat.{add-sub-cancel-left}
 use Rattle.grid.specs.Shapes.{product-le}
 use Rattle.grid.specs.Windows.{row-cells-is, row-cells-cut, row-cells-past}

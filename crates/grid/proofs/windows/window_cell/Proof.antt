@@ -1,6 +1,6 @@
 -- `windows::window_cell` meets its contract: the place is formed as `place` is, and fits since corner and width are bytes.
 -- Assumes nothing.
-use mathlib.Core.Path.{_≡_, refl, sym, ap, _∙_}
+use mathlib.Core.Path.{refl}
 use native.Mathlib.Omega.{arith}
 use Prim.Native.Nat.{_+_, _*_, _≤_}
 use Rattle.grid.specs.Shapes.{product-le}

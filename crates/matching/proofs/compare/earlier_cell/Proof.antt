@@ -1,15 +1,15 @@
 -- `compare::earlier_cell` meets its contract. The invariant: the walk stands at q, and no position before q mismatches with the later one.
 -- Assumes nothing.
-use mathlib.Core.Path.{_≡_, refl, sym, ap, _∙_}
-use mathlib.Core.Bool.{Bool, true, false}
-use Prim.Native.Nat.{ℕ, _+_, _-_, _*_, _≤_, _<_}
+use mathlib.Core.Path.{_≡_, sym, ap, _∙_}
+use mathlib.Core.Bool.{Bool, false}
+use Prim.Native.Nat.{ℕ, _+_, _-_, _≤_, _<_}
 use native.Mathlib.Omega.{arith}
-use lib.ListN.{length, getD}
+use lib.ListN.{length}
 use Rattle.theory.specs.Test.{Tested, holds, fails, lt-tested}
 use denote.Ref.{now}
 use Rattle.theory.specs.Match.{mismatchAt}
 use Rattle.theory.specs.Match.Even.{mismatch-by}
-use Rattle.matching.specs.Compare.{patternAt, windowOf, cellsOf, WalkAt}
+use Rattle.matching.specs.Compare.{patternAt, windowOf, WalkAt}
 use Rattle.matching.specs.Compare.Walks.{walkable, walk-reads, walk-inside, walk-column, cells-small}
 use Rattle.matching.specs.Compare.Scans.{earlier-found, earlier-none}
 use Rattle.matching.proofs.compare.earlier_cell.Statement.{statement}

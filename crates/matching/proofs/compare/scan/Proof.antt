@@ -1,16 +1,16 @@
 -- `compare::scan` meets its contract. The invariant: the walk stands at p, no mismatch ends before p, and the columns have the pairs of the
 -- positions passed.
 -- Assumes nothing.
-use mathlib.Core.Path.{_≡_, refl, sym, ap, _∙_}
-use mathlib.Core.Bool.{true, false, not}
-use Prim.Native.Nat.{ℕ, _+_, _-_, _*_, _≤_, _<_}
+use mathlib.Core.Path.{_≡_, refl, sym, _∙_}
+use mathlib.Core.Bool.{not}
+use Prim.Native.Nat.{ℕ, _-_, _≤_, _<_}
 use native.Mathlib.Omega.{arith}
 use lib.ListN.{length, getD}
 use borrow.Author.Tests.{not-true, not-false}
 use denote.Ref.{now}
 use Rattle.theory.specs.Match.{ends}
 use Rattle.grid.specs.Windows.{window-at}
-use Rattle.matching.specs.Compare.{patternAt, windowOf, cellsOf, WalkAt}
+use Rattle.matching.specs.Compare.{patternAt, windowOf, WalkAt}
 use Rattle.matching.specs.Compare.Walks.{walkable, walk-reads, walk-inside, walk-column, cells-small}
 use Rattle.matching.specs.Compare.Scans.{Passed, passed-none, passed-long, test-ends, passed-more, end-found, end-none}
 use Rattle.matching.proofs.compare.scan.Statement.{statement}

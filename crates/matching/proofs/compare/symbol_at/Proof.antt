@@ -1,6 +1,6 @@
 -- `compare::symbol_at` meets its contract: the place is formed as the window's reading says.
 -- Assumes nothing.
-use mathlib.Core.Path.{_≡_, refl, sym, ap, _∙_}
+use mathlib.Core.Path.{sym}
 use native.Mathlib.Omega.{arith}
 use Prim.Native.Nat.{_+_, _*_, _/_, _%_, _≤_, _<_}
 use lib.ListN.{length}

@@ -1,6 +1,6 @@
 -- `compare::window_outcome` meets its contract: 2, 3, 4 by the shape's own check, then 5.
 -- Assumes nothing.
-use mathlib.Core.Path.{_≡_, sym, _∙_}
+use mathlib.Core.Path.{sym, _∙_}
 use borrow.Author.Tests.{not-true, not-false}
 use Rattle.grid.specs.Refusals.{refused-positive, accepted-zero}
 use Rattle.matching.specs.Compare.Accepted.{window-shape-refused, window-corner-refused, window-accepted}

@@ -4,8 +4,8 @@
 use native.Mathlib.Omega.{arith}
 use borrow.Author.Needs.{needs}
 use denote.Ref.{now}
-use Rattle.search.specs.Flags.{strip-small}
-use Rattle.search.specs.Flags.Steps.{pattern-small, counts-there, counts-long, flags-over, links-over}
+use Rattle.search.specs.Flags.{pattern-small, strip-small}
+use Rattle.search.specs.Flags.Steps.{counts-there, counts-long, flags-over, links-over}
 use Rattle.search.proofs.flags.flag_all.Statement.{statement}
 use Rattle.search.proofs.flags.flag_all.Tie as tie
 
@@ -22,13 +22,15 @@ flag-windows-requires c κs =
     let r = o .pre in
     let e = c .before .before .before .before .before .distinct-counts .ensures .1 in
     record {
-      shape = r .shape;
-      size = r .size;
+      room = record {
+        shape = r .shape;
+        size = r .size;
+        links-room = r .links-room;
+        counts-room = omega (arith, r .counts-room, counts-long (now (a .text)) (a .s) (now (a .counts)) _ (r .shape) (r .counts-room) e);
+        flags-room = r .flags-room;
+      };
       symbols-is = c .before .before .before .before .before .before .before .pattern-size .ensures;
       counts-are = counts-there (now (a .text)) (a .s) (now (a .counts)) _ (r .shape) (r .counts-room) e;
-      counts-room = omega (arith, r .counts-room, counts-long (now (a .text)) (a .s) (now (a .counts)) _ (r .shape) (r .counts-room) e);
-      flags-room = r .flags-room;
-      links-room = r .links-room;
     }
 
 mul-clear : tie.Need-mul-clear

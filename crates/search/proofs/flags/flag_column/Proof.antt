@@ -24,7 +24,7 @@ returns c =
     let a = o .args in
     let r = o .pre .0 in
     let k = c .before .before .before .before .before .before .before .needed-links .ensures in (
-      strip-flags (now (a .text)) (now (a .pattern)) (a .symbols) (a .s) (a .left) (now (a .counts)) _ (r .shape) (o .pre .1) (r .size) (r .symbols-is)
+      strip-flags (now (a .text)) (now (a .pattern)) (a .symbols) (a .s) (a .left) (now (a .counts)) _ (r .room .shape) (o .pre .1) (r .room .size) (r .symbols-is)
           (r .counts-are) (k .0) (now (a .flags)) _ (c .before .before .flag-strip .ensures),
       k .1,
     )

@@ -13,24 +13,24 @@ use Rattle.search.proofs.flags.flag_strip.Statement.{statement}
 use Rattle.search.proofs.flags.flag_strip.Tie as tie
 
 abbrev Inv-loop : tie.InvT-loop
-Inv-loop pattern symbols s left counts links flags₀ width height top₀ flags top =
-    (top ≤ height) × (flags ≡ stored (flagFrom pattern symbols s counts links) (λ top. top * across s + left) top flags₀)
+Inv-loop pattern symbols s left counts links flags₀ wide tall top₀ flags top =
+    (top ≤ tall) × (flags ≡ stored (flagFrom pattern symbols s counts links) (λ top. top * across s + left) top flags₀)
 
 abbrev μ-loop : tie.MeasureT-loop
-μ-loop pattern symbols s left counts links flags₀ width height top₀ flags top = height - top
+μ-loop pattern symbols s left counts links flags₀ wide tall top₀ flags top = tall - top
 
 -- the place of the window whose flag is written
 place-in : (c : tie.In-loop Inv-loop μ-loop) → let a = c .before .before .before .before .before .before .before .before .before .before .args in
     c .before .loop .top * across (a .s) + a .left < down (a .s) * across (a .s)
 place-in c =
     let o = c .before .before .before .before .before .before .before .before .before .before in
-    place-lt (across (o .args .s)) (down (o .args .s)) (c .before .loop .top) (o .args .left) (o .pre .strip) (c .loop-test .taken)
+    place-lt (across (o .args .s)) (down (o .args .s)) (c .before .loop .top) (o .args .left) (o .pre .1) (c .loop-test .taken)
 
 place-small : (c : tie.In-loop Inv-loop μ-loop) → let a = c .before .before .before .before .before .before .before .before .before .before .args in
     c .before .loop .top * across (a .s) + a .left < 255 * 255
 place-small c =
     let o = c .before .before .before .before .before .before .before .before .before .before in
-    omega (arith, place-in c, windows-small (o .args .s) _ (o .pre .sides))
+    omega (arith, place-in c, windows-small (o .args .s) _ (o .pre .0 .shape))
 
 -- its rows lie in the strip
 part : (c : tie.In-loop Inv-loop μ-loop) → let a = c .before .before .before .before .before .before .before .before .before .before .args in
@@ -45,17 +45,17 @@ length-flags c = ap length (c .loop .inv .1) ∙ length-stored _ _ (c .loop .top
 all : (c : tie.After-loop Inv-loop μ-loop) → c .before .loop .top ≡ down (c .before .before .before .before .before .before .before .before .before .before .args .s)
 all c = omega arith
 
-add-width : tie.Need-add-width Inv-loop μ-loop
-add-width c = omega arith
+add-across : tie.Need-add-across Inv-loop μ-loop
+add-across c = omega arith
 
-sub-width : tie.Need-sub-width Inv-loop μ-loop
-sub-width c = omega arith
+sub-across : tie.Need-sub-across Inv-loop μ-loop
+sub-across c = omega arith
 
-add-height : tie.Need-add-height Inv-loop μ-loop
-add-height c = omega arith
+add-down : tie.Need-add-down Inv-loop μ-loop
+add-down c = omega arith
 
-sub-height : tie.Need-sub-height Inv-loop μ-loop
-sub-height c = omega arith
+sub-down : tie.Need-sub-down Inv-loop μ-loop
+sub-down c = omega arith
 
 loop-holds : tie.Need-loop-holds Inv-loop μ-loop
 loop-holds c = (omega arith, sym (stored-none _ _ _))
@@ -70,22 +70,22 @@ mul-flag : tie.Need-mul-flag Inv-loop μ-loop
 mul-flag c = omega (arith, place-small c)
 
 shared-slice-read-flag : tie.Need-shared-slice-read-flag Inv-loop μ-loop
-shared-slice-read-flag c = omega (arith, place-in (c .before), c .before .before .before .before .before .before .before .before .before .before .before .pre .counts-room)
+shared-slice-read-flag c = omega (arith, place-in (c .before), c .before .before .before .before .before .before .before .before .before .before .before .pre .0 .counts-room)
 
 mul-flag-2 : tie.Need-mul-flag-2 Inv-loop μ-loop
 mul-flag-2 c =
     let o = c .before .before .before .before .before .before .before .before .before .before .before .before in
-    omega (arith, part (c .before .before), strip-small (o .args .s) _ (o .pre .sides))
+    omega (arith, part (c .before .before), strip-small (o .args .s) _ (o .pre .0 .shape))
 
 flag-requires : tie.Need-flag-requires Inv-loop μ-loop
 flag-requires c κs =
     let o = c .before .before .before .before .before .before .before .before .before .before .before .before in
-    omega (arith, part (c .before .before), o .pre .pattern-is, o .pre .links-room)
+    omega (arith, part (c .before .before), o .pre .0 .size, o .pre .0 .links-room)
 
 slice-write-flags : tie.Need-slice-write-flags Inv-loop μ-loop
 slice-write-flags c =
     let p = place-in (c .before .before .before) in
-    omega (arith, length-flags (c .before .before .before .before), c .before .before .before .before .before .before .before .before .before .before .before .before .before .pre .flags-room)
+    omega (arith, length-flags (c .before .before .before .before), c .before .before .before .before .before .before .before .before .before .before .before .before .before .pre .0 .flags-room)
 
 add-top : tie.Need-add-top Inv-loop μ-loop
 add-top c = omega arith
@@ -101,7 +101,7 @@ loop-again c =
       omega arith,
       rw (add-one (i .top))
           (stored-more (flagFrom (now (a .pattern)) (a .symbols) (a .s) (now (a .counts)) (now (a .links))) (λ top. top * across (a .s) + a .left) _ _ _ _ (i .inv .1)
-          (flag-at (now (a .pattern)) (a .symbols) (a .s) (now (a .counts)) (now (a .links)) (i .top) (a .left) _ (o .pre .strip) (c .flag .ensures))),
+          (flag-at (now (a .pattern)) (a .symbols) (a .s) (now (a .counts)) (now (a .links)) (i .top) (a .left) _ (o .pre .1) (c .flag .ensures))),
     )
 
 same-length : tie.Need-same-length Inv-loop μ-loop
@@ -116,10 +116,10 @@ flag-strip-spec =
     (tie.spec
     Inv-loop
     μ-loop
-    add-width
-    sub-width
-    add-height
-    sub-height
+    add-across
+    sub-across
+    add-down
+    sub-down
     loop-holds
     mul-k
     add-k

@@ -14,11 +14,11 @@ use Rattle.search.proofs.flags.flag_windows.Statement.{statement}
 use Rattle.search.proofs.flags.flag_windows.Tie as tie
 
 abbrev Inv-loop : tie.InvT-loop
-Inv-loop text pattern symbols s counts links₀ flags₀ width left₀ links flags left =
-    (left ≤ width) × (flags ≡ storedRows (flagOf text pattern s) (λ left top. top * across s + left) left (down s) flags₀) × Kept (s .rows * s .width) links₀ links
+Inv-loop text pattern symbols s counts links₀ flags₀ wide left₀ links flags left =
+    (left ≤ wide) × (flags ≡ storedRows (flagOf text pattern s) (λ left top. top * across s + left) left (down s) flags₀) × Kept (s .rows * s .width) links₀ links
 
 abbrev μ-loop : tie.MeasureT-loop
-μ-loop text pattern symbols s counts links₀ flags₀ width left₀ links flags left = width - left
+μ-loop text pattern symbols s counts links₀ flags₀ wide left₀ links flags left = wide - left
 
 length-flags : (c : tie.At-loop Inv-loop μ-loop) → length (c .loop .flags) ≡ length (now (c .before .before .before .before .before .before .before .before .args .flags))
 length-flags c = ap length (c .loop .inv .1) ∙ length-rows _ _ _ (c .loop .left) _
@@ -26,11 +26,11 @@ length-flags c = ap length (c .loop .inv .1) ∙ length-rows _ _ _ (c .loop .lef
 all : (c : tie.After-loop Inv-loop μ-loop) → c .before .loop .left ≡ across (c .before .before .before .before .before .before .before .before .before .args .s)
 all c = omega arith
 
-add-width : tie.Need-add-width Inv-loop μ-loop
-add-width c = omega arith
+add-across : tie.Need-add-across Inv-loop μ-loop
+add-across c = omega arith
 
-sub-width : tie.Need-sub-width Inv-loop μ-loop
-sub-width c = omega arith
+sub-across : tie.Need-sub-across Inv-loop μ-loop
+sub-across c = omega arith
 
 loop-holds : tie.Need-loop-holds Inv-loop μ-loop
 loop-holds c = (omega arith, sym (rows-none _ _ _ _), kept-same _ _)
@@ -71,8 +71,8 @@ flag-windows-spec =
     (tie.spec
     Inv-loop
     μ-loop
-    add-width
-    sub-width
+    add-across
+    sub-across
     loop-holds
     flag-column-requires
     add-left

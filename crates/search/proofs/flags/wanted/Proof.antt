@@ -11,11 +11,11 @@ use Rattle.search.proofs.flags.wanted.Statement.{statement}
 use Rattle.search.proofs.flags.wanted.Tie as tie
 
 abbrev Inv-loop : tie.InvT-loop
-Inv-loop symbols left counts width height top₀ top =
-    (top ≤ height) × ((k : ℕ) → k < top → getD counts (k * width + left) 0 ≡ symbols → ⊥)
+Inv-loop symbols left counts wide tall top₀ top =
+    (top ≤ tall) × ((k : ℕ) → k < top → getD counts (k * wide + left) 0 ≡ symbols → ⊥)
 
 abbrev μ-loop : tie.MeasureT-loop
-μ-loop symbols left counts width height top₀ top = height - top
+μ-loop symbols left counts wide tall top₀ top = tall - top
 
 -- the place of the window whose count is read
 place-in : (c : tie.In-loop Inv-loop μ-loop) → let a = c .before .before .before .before .before .before .args in
@@ -30,17 +30,17 @@ place-small c =
     let o = c .before .before .before .before .before .before in
     omega (arith, place-in c, windows-small (o .args .s) _ (o .pre .0))
 
-add-width : tie.Need-add-width Inv-loop μ-loop
-add-width c = omega arith
+add-across : tie.Need-add-across Inv-loop μ-loop
+add-across c = omega arith
 
-sub-width : tie.Need-sub-width Inv-loop μ-loop
-sub-width c = omega arith
+sub-across : tie.Need-sub-across Inv-loop μ-loop
+sub-across c = omega arith
 
-add-height : tie.Need-add-height Inv-loop μ-loop
-add-height c = omega arith
+add-down : tie.Need-add-down Inv-loop μ-loop
+add-down c = omega arith
 
-sub-height : tie.Need-sub-height Inv-loop μ-loop
-sub-height c = omega arith
+sub-down : tie.Need-sub-down Inv-loop μ-loop
+sub-down c = omega arith
 
 loop-holds : tie.Need-loop-holds Inv-loop μ-loop
 loop-holds c = (omega arith, λ k h. absurd (none k h))
@@ -81,10 +81,10 @@ wanted-spec =
     (tie.spec
     Inv-loop
     μ-loop
-    add-width
-    sub-width
-    add-height
-    sub-height
+    add-across
+    sub-across
+    add-down
+    sub-down
     loop-holds
     mul-if1
     add-if1

@@ -1,0 +1,124 @@
+// Document 01's drafts, each under a heading: the records of its listing a line each, then the totals of the search; or the refusal.
+mod printing;
+mod running;
+
+use grid::counts::distinct_counts;
+use grid::strips::strip_links;
+use printing::print;
+use printing::print_line;
+use running::run;
+use running::run_in;
+
+// The first draft's text, 2 by 3.
+fn first_text() -> [u8; 6] {
+    [7, 7, 3, 3, 7, 7]
+}
+
+// The first draft's pattern, 2 by 2.
+fn first_pattern() -> [u8; 4] {
+    [1, 1, 2, 1]
+}
+
+// The first draft, with its links and distinct counts.
+fn first_draft() {
+    print(b"first draft\n");
+    run(&first_text(), 2, 3, &first_pattern(), 2, 2);
+    print(b"first draft, links of strip 0\n");
+    first_links(0);
+    print(b"first draft, links of strip 1\n");
+    first_links(1);
+    print(b"first draft, tallies\n");
+    first_counts();
+}
+
+// The links of a strip of the first draft, 2 columns wide.
+fn first_links(left: usize) {
+    let mut links = [0u16; 4];
+    strip_links(&first_text(), 2, 3, 2, left, &mut links);
+    print_line(&links);
+}
+
+// The distinct counts of the first draft's windows.
+fn first_counts() {
+    let mut counts = [0u16; 2];
+    distinct_counts(&first_text(), 2, 3, 2, 2, &mut counts);
+    print_line(&counts);
+}
+
+// The drafts of one cell and of one row.
+fn small_drafts() {
+    print(b"1 by 1, sheet 5, motif 5\n");
+    run(&[5], 1, 1, &[5], 1, 1);
+    print(b"sheet 4 4, motif 1 2\n");
+    run(&[4, 4], 1, 2, &[1, 2], 1, 2);
+    print(b"sheet 4 5, motif 1 1\n");
+    run(&[4, 5], 1, 2, &[1, 1], 1, 2);
+    print(b"sheet 4 5 5, motif 1 2 1\n");
+    run(&[4, 5, 5], 1, 3, &[1, 2, 1], 1, 3);
+    print(b"sheet 4 5 4, motif 1 2 2\n");
+    run(&[4, 5, 4], 1, 3, &[1, 2, 2], 1, 3);
+    print(b"sheet 2 1, motif 1 2\n");
+    run(&[2, 1], 1, 2, &[1, 2], 1, 2);
+}
+
+// The first draft with a listing buffer a byte too short, and with one that its listing fills.
+fn short_buffer() {
+    print(b"first draft, listing buffer 20\n");
+    let mut short = [0u8; 20];
+    run_in(&first_text(), 2, 3, &first_pattern(), 2, 2, &mut short);
+    print(b"first draft, listing buffer 21\n");
+    let mut filled = [0u8; 21];
+    run_in(&first_text(), 2, 3, &first_pattern(), 2, 2, &mut filled);
+}
+
+// The longest side, down and across. A text of one symbol, and a pattern of one symbol as large as the text.
+fn longest_sides() {
+    let text = [7u8; 255];
+    let pattern = [1u8; 255];
+    print(b"side 255, rows of sheet and motif\n");
+    run(&text, 255, 1, &pattern, 255, 1);
+    print(b"side 255, columns of sheet and motif\n");
+    run(&text, 1, 255, &pattern, 1, 255);
+}
+
+// Sides of 0: the cells are right in number, none.
+fn empty_sides() {
+    let none = [0u8; 0];
+    print(b"side 0, rows of the sheet\n");
+    run(&none, 0, 1, &[1], 1, 1);
+    print(b"side 0, columns of the sheet\n");
+    run(&none, 1, 0, &[1], 1, 1);
+    print(b"side 0, rows of the motif\n");
+    run(&[7], 1, 1, &none, 0, 1);
+    print(b"side 0, columns of the motif\n");
+    run(&[7], 1, 1, &none, 1, 0);
+}
+
+// Sides of 256: the cells are right in number, 256.
+fn long_sides() {
+    let cells = [7u8; 256];
+    print(b"side 256, rows of the sheet\n");
+    run(&cells, 256, 1, &[1], 1, 1);
+    print(b"side 256, columns of the sheet\n");
+    run(&cells, 1, 256, &[1], 1, 1);
+    print(b"side 256, rows of the motif\n");
+    run(&[7], 1, 1, &cells, 256, 1);
+    print(b"side 256, columns of the motif\n");
+    run(&[7], 1, 1, &cells, 1, 256);
+}
+
+// A pattern as large as the text has one window.
+fn one_window() {
+    print(b"motif as large as the sheet, 1 1 2 / 2 1 1\n");
+    run(&first_text(), 2, 3, &[1, 1, 2, 2, 1, 1], 2, 3);
+}
+
+fn main() {
+    first_draft();
+    small_drafts();
+    short_buffer();
+    longest_sides();
+    empty_sides();
+    long_sides();
+    one_window();
+}

@@ -1,0 +1,50 @@
+// A draft run: the search over buffers of its own, and its answer printed.
+use crate::printing::print_listing;
+use crate::printing::print_refusal;
+use crate::printing::print_totals;
+use search::search::Searched;
+use search::search::search;
+
+// Searches with the listing buffer that is lent, and prints the records of the listing and the totals, or the refusal.
+pub fn run_in(
+    text: &[u8],
+    rows: usize,
+    columns: usize,
+    pattern: &[u8],
+    height: usize,
+    width: usize,
+    listing: &mut [u8],
+) {
+    let mut links = [0u16; 256];
+    let mut counts = [0u16; 256];
+    let mut flags = [0u8; 256];
+    let answer = search(
+        text,
+        rows,
+        columns,
+        pattern,
+        height,
+        width,
+        &mut links,
+        &mut counts,
+        &mut flags,
+        listing,
+    );
+    match answer {
+        Searched::Listed {
+            found,
+            refused,
+            length,
+        } => {
+            print_listing(&listing[..length]);
+            print_totals(found, refused, length);
+        }
+        Searched::Refused(why) => print_refusal(why),
+    }
+}
+
+// The same with a listing buffer that is long enough for every draft.
+pub fn run(text: &[u8], rows: usize, columns: usize, pattern: &[u8], height: usize, width: usize) {
+    let mut listing = [0u8; 64];
+    run_in(text, rows, columns, pattern, height, width, &mut listing);
+}

@@ -1,0 +1,80 @@
+-- `entries::write_window` meets its contract: the flag says whether the pattern matches, and each way writes the records of that answer.
+-- Assumes nothing.
+use mathlib.Core.Path.{_≡_, ap, _∙_}
+use mathlib.Core.List.{List}
+use Prim.Native.Nat.{ℕ, _+_}
+use native.Mathlib.Omega.{arith}
+use lib.ListN.{length}
+use borrow.Author.Needs.{needs}
+use denote.Ref.{now}
+use Rattle.listing.specs.Records.{written}
+use Rattle.listing.specs.Entries.{bytesAll}
+use Rattle.listing.specs.declared.records.Record.{Record}
+use Rattle.search.specs.Listing.{entryAt}
+use Rattle.search.specs.Listing.Columns.{older-next}
+use Rattle.search.specs.Listing.Entries.{foundRecords, standing, found-records, flag-matched, flag-unmatched}
+use Rattle.search.proofs.entries.write_window.Statement.{statement}
+use Rattle.search.proofs.entries.write_window.Tie as tie
+
+-- the records that are written are the window's
+records : (c : tie.Then1) → let a = c .before .before .before .before .before .args in foundRecords (now (a .text)) (a .v) (a .symbols) (now (a .places)) ≡ entryAt (now (a .text)) (now (a .pattern)) (a .v)
+records c =
+    let a = c .before .before .before .before .before .args in
+    let w = c .before .before .before .before .before .pre .0 in
+    found-records (now (a .text)) (a .v) (now (a .pattern)) (a .symbols) (now (a .places)) (w .symbols-are) (w .places-are) (w .size)
+    (flag-matched (now (a .text)) (a .v) (now (a .pattern)) _ (w .flag-is) (c .if1 .taken))
+
+write-found-requires : tie.Need-write-found-requires
+write-found-requires c κs =
+    let o = c .before .before .before .before .before .before in
+    let a = o .args in
+    let w = o .pre .0 in (
+      w .placed,
+      w .small,
+      standing (now (a .text)) (a .v) (now (a .pattern)) (a .symbols) (now (a .places)) (w .symbols-are) (w .places-are) (w .size),
+      omega (arith, ap (λ (r : List Record). length (bytesAll r)) (records (c .before)), o .pre .4),
+    )
+
+same-length : tie.Need-same-length
+same-length c = search needs
+
+returns : tie.Need-returns
+returns c =
+    let o = c .before .before .before .before .before .before .before .before .before in
+    let w = c .before .before .write-found .ensures in
+    let e = ap bytesAll (records (c .before .before .before .before)) in
+    (w .0 ∙ ap (λ (xs : List ℕ). o .args .at + length xs) e, (w .1 ∙ ap (written _ _) e, (older-next _ _ (o .pre .2), older-next _ _ (o .pre .3))))
+
+write-refused-requires : tie.Need-write-refused-requires
+write-refused-requires c κs =
+    let o = c .before .before .before .before .before .before .before .before in
+    let a = o .args in
+    let w = o .pre .0 in (
+      record {
+        placed = w .placed;
+        small = w .small;
+        size = w .size;
+        none = flag-unmatched (now (a .text)) (a .v) (now (a .pattern)) _ (w .flag-is) (c .before .before .before .if1 .left);
+      },
+      o .pre .1,
+      o .pre .2,
+      o .pre .3,
+      o .pre .4,
+    )
+
+same-length-2 : tie.Need-same-length-2
+same-length-2 c = search needs
+
+returns-2 : tie.Need-returns-2
+returns-2 c = search needs
+
+pub write-window-spec : {M : Type 1} → statement M
+write-window-spec =
+    tie.close
+    (tie.spec
+    write-found-requires
+    same-length
+    returns
+    write-refused-requires
+    same-length-2
+    returns-2)

@@ -1,0 +1,200 @@
+-- The records of one window are those of its answer: a found window's pairs have the window's symbols at any place of each symbol, and a
+-- refused window's record has the mismatch that ends first and then begins first.
+-- Assumes nothing.
+use mathlib.Core.Path.{_≡_, refl, sym, _∙_, ap}
+use mathlib.Core.Bool.{Bool, true}
+use mathlib.Core.List.{List, [], _∷_}
+use Prim.Native.Nat.{ℕ, _+_, _/_, _%_, _<_}
+use native.Mathlib.Nat.{mod-lt, div-lt-iff-lt-mul}
+use native.Mathlib.Omega.{arith}
+use lib.Dec.{eqb}
+use lib.ListN.{length, getD, set, length-set}
+use lib.Seq.{getD-set-same, getD-set-other}
+use Rattle.theory.specs.Test.{pick, Tested, holds, fails, eq-tested, lt-tested, says-true}
+use Rattle.theory.specs.Count.{members, members-ext, members-pass}
+use Rattle.theory.specs.Match.{Answer, matched, mismatched, answerOf, imageOf, firstEnd, earliest, mismatchEnding}
+use Rattle.theory.specs.Match.Even.{Even, maps-even, even-carries, earliest-le}
+use Rattle.theory.specs.Match.Answers.{match-iff}
+use Rattle.grid.specs.Symbols.{has, symbolSet}
+use Rattle.grid.specs.Symbols.Patterns.{has-symbol-set}
+use Rattle.grid.specs.Distinct.{contains}
+use Rattle.grid.specs.Distinct.Sets.{contains-tested}
+use Rattle.grid.specs.declared.symbols.Symbols.{Symbols}
+use Rattle.matching.specs.Compare.{patternAt, windowOf, cellsOf, Placed}
+use Rattle.matching.specs.Compare.Scans.{answer-mismatch, answer-match}
+use Rattle.matching.specs.declared.compare.WindowPlace.{WindowPlace}
+use Rattle.listing.specs.Records.{bytesOf}
+use Rattle.listing.specs.Entries.{bytesAll, bytes-one, pairsOf, pairs-ext, entryOf, entry-found, entry-refused, spoiledAt, mismatchRecord}
+use Rattle.listing.specs.declared.records.Record.{Record}
+use Rattle.listing.specs.declared.records.Record.the-variants.{Found}
+use Rattle.search.specs.Flags.{isMatch}
+use Rattle.search.specs.Listing.{symbolsOf, entryAt}
+
+-- each symbol of the first n positions of the pattern has a place, among them
+pub record PlacesTo (pattern : List ℕ) (n : ℕ) (places : List ℕ) : Type 0 where
+  pub long : length places ≡ 256
+  pub stands : (q : ℕ) → q < n → (getD places (getD pattern q 0) 0 < n) × (getD pattern (getD places (getD pattern q 0) 0) 0 ≡ getD pattern q 0)
+
+-- each symbol of the pattern has
+abbrev pub PlacesOf : List ℕ → List ℕ → Type 0
+PlacesOf pattern places = PlacesTo pattern (length pattern) places
+
+-- corner and sides of a window are bytes
+pub record Small (v : WindowPlace) : Type 0 where
+  pub row-small : v .row < 256
+  pub column-small : v .column < 256
+  pub height-small : v .height < 256
+  pub width-small : v .width < 256
+  pub some : 0 < v .width
+
+-- the window's symbol at the place of each symbol
+abbrev pub imagesAt : List ℕ → WindowPlace → List ℕ → ℕ → ℕ
+imagesAt text v places a = windowOf text v (getD places a 0)
+
+-- the places of a set's symbols lie in the window
+pub record Standing (symbols : Symbols) (places : List ℕ) (v : WindowPlace) : Type 0 where
+  pub long : length places ≡ 256
+  pub inside : (a : ℕ) → a < 256 → has symbols a ≡ true → getD places a 0 < cellsOf v
+
+-- a found window's records, read at the places
+abbrev pub foundRecords : List ℕ → WindowPlace → Symbols → List ℕ → List Record
+foundRecords text v symbols places = Found (v .row) (v .column) ∷ pairsOf (imagesAt text v places) (members (has symbols) 256)
+
+-- a window that the pattern does not match
+pub record Unmatched (text : List ℕ) (v : WindowPlace) (pattern : List ℕ) : Type 0 where
+  pub placed : Placed text v
+  pub small : Small v
+  pub size : length pattern ≡ cellsOf v
+  pub none : answerOf (patternAt pattern) (windowOf text v) (cellsOf v) ≡ matched → ⊥
+
+-- a window with its flag, the pattern's symbols and their places
+pub record Answered (text : List ℕ) (v : WindowPlace) (pattern : List ℕ) (flag : ℕ) (symbols : Symbols) (places : List ℕ) : Type 0 where
+  pub placed : Placed text v
+  pub small : Small v
+  pub size : length pattern ≡ cellsOf v
+  pub flag-is : flag ≡ pick (isMatch (answerOf (patternAt pattern) (windowOf text v) (cellsOf v))) 1 0
+  pub symbols-are : symbols ≡ symbolSet pattern
+  pub places-are : PlacesOf pattern places
+
+-- ---- the places, position by position
+
+pub places-none : (pattern places : List ℕ) → length places ≡ 256 → PlacesTo pattern 0 places
+places-none pattern places e = record { long = e; stands = λ q h. absurd (below q h) }
+  where
+    below : (q : ℕ) → q < 0 → ⊥
+    below q h = omega arith
+
+pub places-more : (pattern places : List ℕ) (p a : ℕ) → a ≡ getD pattern p 0 → a < 256 → PlacesTo pattern p places → PlacesTo pattern (p + 1) (set places a p)
+places-more pattern places p a ea small h =
+    record {
+      long = rw length-set (h .long);
+      stands = λ q l. go q l (eq-tested (getD pattern q 0) a);
+    }
+  where
+    same : (q : ℕ) → getD pattern q 0 ≡ a → getD (set places a p) (getD pattern q 0) 0 ≡ p
+    same q e = rw e (getD-set-same places a p 0 (omega (arith, h .long)))
+
+    other : (q : ℕ) → (getD pattern q 0 ≡ a → ⊥) → getD (set places a p) (getD pattern q 0) 0 ≡ getD places (getD pattern q 0) 0
+    other q n = getD-set-other places a (getD pattern q 0) p 0 n
+
+    go : (q : ℕ) {t : Bool} → q < p + 1 → Tested (getD pattern q 0 ≡ a) t
+        → (getD (set places a p) (getD pattern q 0) 0 < p + 1) × (getD pattern (getD (set places a p) (getD pattern q 0) 0) 0 ≡ getD pattern q 0)
+    go q l (holds e) = (omega (arith, same q e), ap (λ (k : ℕ). getD pattern k 0) (same q e) ∙ sym ea ∙ sym e)
+    go q l (fails n) =
+        let not-p : q ≡ p → ⊥ = λ x. n (ap (λ (k : ℕ). getD pattern k 0) x ∙ sym ea) in
+        let o = h .stands q (omega arith) in
+        (omega (arith, other q n, o .0), ap (λ (k : ℕ). getD pattern k 0) (other q n) ∙ o .1)
+
+-- ---- a found window
+
+module _ (text : List ℕ) (v : WindowPlace) (pattern : List ℕ) where
+  -- a symbol of the pattern stands at its place
+  symbol-stands : (places : List ℕ) → PlacesOf pattern places → (a : ℕ) → contains pattern a ≡ true → (getD places a 0 < length pattern) × (getD pattern (getD places a 0) 0 ≡ a)
+  symbol-stands places h a t =
+      let e = says-true (contains-tested pattern a) t in
+      rw (← (e .2)) (h .stands (e .0) (e .1))
+
+  pub standing : (symbols : Symbols) (places : List ℕ) → symbols ≡ symbolSet pattern → PlacesOf pattern places → length pattern ≡ cellsOf v → Standing symbols places v
+  standing symbols places e h size =
+      record {
+        long = h .long;
+        inside = λ a l t. let s = symbol-stands places h a (sym (has-symbol-set pattern a l) ∙ ap (λ (x : Symbols). has x a) (sym e) ∙ t) in omega (arith, s .0);
+      }
+
+  -- the records read at the places are those of the answer
+  pub found-records : (symbols : Symbols) (places : List ℕ) → symbols ≡ symbolSet pattern → PlacesOf pattern places → length pattern ≡ cellsOf v
+      → answerOf (patternAt pattern) (windowOf text v) (cellsOf v) ≡ matched → foundRecords text v symbols places ≡ entryAt text pattern v
+  found-records symbols places e h size yes-matched =
+      ap (λ (xs : List ℕ). Found (v .row) (v .column) ∷ pairsOf (imagesAt text v places) xs) listed
+      ∙ ap (λ (rs : List Record). Found (v .row) (v .column) ∷ rs) (pairs-ext (imagesAt text v places) (imageOf (patternAt pattern) (windowOf text v) (cellsOf v)) (symbolsOf pattern) same)
+      ∙ sym (entry-found (v .row) (v .column) (v .width) (symbolsOf pattern) (imageOf (patternAt pattern) (windowOf text v) (cellsOf v)))
+      ∙ ap (entryOf (v .row) (v .column) (v .width) (symbolsOf pattern) (imageOf (patternAt pattern) (windowOf text v) (cellsOf v))) (sym yes-matched)
+    where
+      listed : members (has symbols) 256 ≡ symbolsOf pattern
+      listed = members-ext (has symbols) (contains pattern) 256 (λ a l. ap (λ (x : Symbols). has x a) e ∙ has-symbol-set pattern a l)
+
+      even : Even (patternAt pattern) (windowOf text v) (cellsOf v)
+      even =
+          let f = match-iff (patternAt pattern) (windowOf text v) (cellsOf v) .0 yes-matched in
+          maps-even (patternAt pattern) (windowOf text v) (cellsOf v) (f .0) (f .1)
+
+      same : (i : ℕ) → i < length (symbolsOf pattern)
+          → imagesAt text v places (getD (symbolsOf pattern) i 0) ≡ imageOf (patternAt pattern) (windowOf text v) (cellsOf v) (getD (symbolsOf pattern) i 0)
+      same i l =
+          let a = getD (symbolsOf pattern) i 0 in
+          let s = symbol-stands places h a (members-pass (contains pattern) 256 i l .1) in
+          sym
+          (ap (imageOf (patternAt pattern) (windowOf text v) (cellsOf v)) (sym (s .1))
+          ∙ even-carries (patternAt pattern) (windowOf text v) (cellsOf v) even (getD places a 0) (omega (arith, s .0)))
+
+  -- the flag says which
+  pub flag-matched : (flag : ℕ) → flag ≡ pick (isMatch (answerOf (patternAt pattern) (windowOf text v) (cellsOf v))) 1 0 → flag ≡ 1
+      → answerOf (patternAt pattern) (windowOf text v) (cellsOf v) ≡ matched
+  flag-matched flag e d = go (answerOf (patternAt pattern) (windowOf text v) (cellsOf v)) (sym e ∙ d)
+    where
+      go : (a : Answer) → _≡_ {A = ℕ} (pick (isMatch a) 1 0) 1 → a ≡ matched
+      go matched x = refl
+      go (mismatched s q p) x = absurd (omega arith)
+
+  pub flag-unmatched : (flag : ℕ) → flag ≡ pick (isMatch (answerOf (patternAt pattern) (windowOf text v) (cellsOf v))) 1 0 → (flag ≡ 1 → ⊥)
+      → answerOf (patternAt pattern) (windowOf text v) (cellsOf v) ≡ matched → ⊥
+  flag-unmatched flag e d x = d (e ∙ ap (λ (a : Answer). pick (isMatch a) 1 0) x)
+
+-- ---- a refused window
+
+module _ (text : List ℕ) (v : WindowPlace) (pattern : List ℕ) (h : Unmatched text v pattern) (p q : ℕ)
+    (ep : p ≡ firstEnd (patternAt pattern) (windowOf text v) (cellsOf v)) where
+  -- the scan ended inside
+  pub end-inside : p < cellsOf v
+  end-inside = go (lt-tested p (cellsOf v))
+    where
+      go : {t : Bool} → Tested (p < cellsOf v) t → p < cellsOf v
+      go (holds l) = l
+      go (fails l) = absurd (h .none (answer-match (patternAt pattern) (windowOf text v) p (cellsOf v) ep (omega arith)))
+
+  pub earlier-inside : q ≡ earliest (patternAt pattern) (windowOf text v) p → q < cellsOf v
+  earlier-inside eq = omega (arith, end-inside, earliest-le (patternAt pattern) (windowOf text v) p)
+
+  -- the record is that of the answer
+  pub refused-record : q ≡ earliest (patternAt pattern) (windowOf text v) p
+      → mismatchRecord (eqb (getD pattern q 0) (getD pattern p 0)) (spoiledAt (v .row) (v .column) (v .width) q p) ∷ [] ≡ entryAt text pattern v
+  unfolding mismatchEnding
+  refused-record eq =
+      sym (entry-refused (v .row) (v .column) (v .width) (symbolsOf pattern) image (eqb (getD pattern q 0) (getD pattern p 0)) q p)
+      ∙ ap (λ (k : ℕ). entryOf (v .row) (v .column) (v .width) (symbolsOf pattern) image (mismatched (eqb (getD pattern k 0) (getD pattern p 0)) k p)) eq
+      ∙ ap (entryOf (v .row) (v .column) (v .width) (symbolsOf pattern) image) (sym (answer-mismatch (patternAt pattern) (windowOf text v) p (cellsOf v) ep end-inside))
+    where
+      image : ℕ → ℕ
+      image = imageOf (patternAt pattern) (windowOf text v) (cellsOf v)
+
+  -- and so are its bytes
+  pub refused-bytes : (alike : Bool) (item : Record) → q ≡ earliest (patternAt pattern) (windowOf text v) p → alike ≡ eqb (getD pattern q 0) (getD pattern p 0)
+      → item ≡ mismatchRecord alike (spoiledAt (v .row) (v .column) (v .width) q p) → bytesOf item ≡ bytesAll (entryAt text pattern v)
+  refused-bytes alike item eq s e = sym (bytes-one item) ∙ ap (λ (r : Record). bytesAll (r ∷ [])) (e ∙ ap (λ (b : Bool). mismatchRecord b (spoiledAt (v .row) (v .column) (v .width) q p)) s) ∙ ap bytesAll (refused-record eq)
+
+-- row and column of a cell are bytes
+pub row-byte : (v : WindowPlace) → Small v → (p : ℕ) → p < cellsOf v → p / v .width < 256
+row-byte v s p h = let l : p / v .width < v .height = div-lt-iff-lt-mul (s .some) .1 h in omega (arith, s .height-small)
+
+pub column-byte : (v : WindowPlace) → Small v → (p : ℕ) → p % v .width < 256
+column-byte v s p = omega (arith, mod-lt p (s .some), s .width-small)

@@ -1,0 +1,69 @@
+-- The length of the listing: 3 + 3d bytes for each window found, 7 for each refused, and 5 for the closing (`length-listing`).
+-- Assumes nothing.
+use mathlib.Core.Path.{_≡_, refl, _∙_}
+use mathlib.Core.Bool.{Bool, true, false, not}
+use mathlib.Core.List.{List, [], _∷_}
+use Prim.Native.Nat.{ℕ, zero, suc, _+_, _*_, _<_}
+use native.Mathlib.Nat.{suc-mul}
+use native.Mathlib.Numerals.{add-one}
+use native.Mathlib.Omega.{arith}
+use lib.ListN.{length, getD, length-append}
+use Rattle.theory.specs.Test.{pick}
+use Rattle.theory.specs.Join.{joined, joined-zero, joined-suc}
+use Rattle.theory.specs.Count.{count, length-members}
+use Rattle.theory.specs.Match.{Answer, matched, mismatched}
+use Rattle.grid.specs.Distinct.{contains, distinct}
+use Rattle.grid.specs.Distinct.Sets.{distinct-count}
+use Rattle.listing.specs.Entries.{entryOf, bytesAll, bytes-none, bytes-append, length-found, length-refused}
+use Rattle.listing.specs.declared.records.Record.the-variants.{Closing}
+use Rattle.search.specs.Flags.{isMatch, answerAt}
+use Rattle.search.specs.Listing.{symbolsOf, entryOfWindow, foundIn, refusedIn, searchRecords, searchListing, neededLength}
+
+-- a pattern of bytes has as many symbols as it has different ones
+pub length-symbols : (pattern : List ℕ) → ((k : ℕ) → getD pattern k 0 < 256) → length (symbolsOf pattern) ≡ distinct pattern
+length-symbols pattern small = length-members (contains pattern) 256 ∙ distinct-count pattern 256 (λ i h. small i)
+
+-- the bytes of a window's records, by its answer
+pub length-entry : (row column width : ℕ) (symbols : List ℕ) (image : ℕ → ℕ) (a : Answer)
+    → length (bytesAll (entryOf row column width symbols image a)) ≡ pick (isMatch a) (3 + 3 * length symbols) 7
+length-entry row column width symbols image matched = length-found row column width symbols image
+length-entry row column width symbols image (mismatched side q p) = length-refused row column width symbols image side q p
+
+-- one window more
+add-entry : (b : Bool) (found refused d all entry : ℕ) → all ≡ found * d + 7 * refused → entry ≡ pick b d 7
+    → all + entry ≡ pick b (found + 1) found * d + 7 * pick (not b) (refused + 1) refused
+add-entry true found refused d all entry e h = rw (add-one found) (omega (arith, suc-mul found d))
+add-entry false found refused d all entry e h = omega arith
+
+module _ (text : List ℕ) (columns : ℕ) (pattern : List ℕ) (height width : ℕ) where
+  abbrev matchAt : ℕ → Bool
+  matchAt k = isMatch (answerAt text columns pattern height width k)
+
+  length-window : (k : ℕ) → length (bytesAll (entryOfWindow text columns pattern height width k)) ≡ pick (matchAt k) (3 + 3 * length (symbolsOf pattern)) 7
+  unfolding entryOfWindow
+  length-window k = length-entry _ _ _ _ _ (answerAt text columns pattern height width k)
+
+  -- the bytes of the first n windows
+  pub length-entries : (n : ℕ) → length (bytesAll (joined (entryOfWindow text columns pattern height width) n))
+      ≡ count matchAt n * (3 + 3 * length (symbolsOf pattern)) + 7 * count (λ k. not (matchAt k)) n
+  unfolding count
+  length-entries zero = rw (joined-zero (entryOfWindow text columns pattern height width), bytes-none) (omega arith)
+  length-entries (suc n) =
+      rw (
+        joined-suc (entryOfWindow text columns pattern height width) n,
+        bytes-append (joined (entryOfWindow text columns pattern height width) n) (entryOfWindow text columns pattern height width n),
+        length-append (bytesAll (joined (entryOfWindow text columns pattern height width) n)) (bytesAll (entryOfWindow text columns pattern height width n)),
+      )
+      (add-entry (matchAt n) (count matchAt n) (count (λ k. not (matchAt k)) n) (3 + 3 * length (symbolsOf pattern)) _ _ (length-entries n) (length-window n))
+
+-- the closing has five bytes
+length-closing : (found refused : ℕ) → length (bytesAll (Closing found refused ∷ [])) ≡ 5
+unfolding bytesAll
+length-closing found refused = refl
+
+-- the listing is as long as document 01 says
+pub length-listing : (text : List ℕ) (rows columns : ℕ) (pattern : List ℕ) (height width : ℕ) → ((k : ℕ) → getD pattern k 0 < 256)
+    → length (searchListing text rows columns pattern height width) ≡ neededLength text rows columns pattern height width
+unfolding searchListing searchRecords neededLength foundIn refusedIn
+length-listing text rows columns pattern height width small =
+    rw (bytes-append, length-append, length-closing, length-entries text columns pattern height width, length-symbols pattern small)

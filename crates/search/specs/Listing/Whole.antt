@@ -1,0 +1,67 @@
+-- The whole listing: the records of all windows, and behind them the closing.
+-- Assumes nothing.
+use mathlib.Core.Path.{_≡_, refl, sym, _∙_, ap, ap₂}
+use mathlib.Core.List.{List, _++_}
+use Prim.Native.Nat.{ℕ, _+_, _≤_}
+use native.Mathlib.Nat.{zero-add}
+use native.Mathlib.Omega.{arith}
+use lib.ListN.{length, length-replicate, replicate}
+use Rattle.theory.specs.Join.{joined}
+use Rattle.grid.specs.Shapes.{windows, product-le}
+use Rattle.grid.specs.Refusals.{bufferAfter}
+use Rattle.grid.specs.declared.counts.Shape.{Shape}
+use Rattle.listing.specs.Records.{bytesOf, written}
+use Rattle.listing.specs.Pieces.{first-room, second-room, both-written}
+use Rattle.listing.specs.Entries.{bytes-append, bytes-one}
+use Rattle.listing.specs.declared.records.Record.the-variants.{Closing}
+use Rattle.search.specs.Listing.{entryOfWindow, foundIn, refusedIn, searchRecords, searchListing}
+use Rattle.search.specs.Listing.Windows.{entryBytes, windowBytes, Flagged}
+
+-- bytes written at a buffer's start
+written-front : (l xs : List ℕ) → written l 0 xs ≡ bufferAfter 0 xs l
+unfolding written
+written-front l xs = rw (zero-add (length xs))
+
+-- a pattern is small
+pub pattern-fits : (text pattern : List ℕ) (s : Shape) (flags : List ℕ) → Flagged text pattern s flags → length pattern ≤ 65025
+pattern-fits text pattern s flags f =
+    let v = f .shape in
+    omega (arith, f .size, product-le (s .height) (s .width) 255 255 (omega arith) (omega arith))
+
+-- a column that was not used
+pub zeros-long : (l : List ℕ) → l ≡ replicate 256 0 → length l ≡ 256
+zeros-long l e = ap length e ∙ length-replicate {A = ℕ} 256 0
+
+module _ (text pattern : List ℕ) (s : Shape) (found refused : ℕ)
+    (f : found ≡ foundIn text (s .rows) (s .columns) pattern (s .height) (s .width))
+    (r : refused ≡ refusedIn text (s .rows) (s .columns) pattern (s .height) (s .width)) where
+  closing : searchListing text (s .rows) (s .columns) pattern (s .height) (s .width) ≡ windowBytes text pattern s ++ bytesOf (Closing found refused)
+  unfolding searchListing searchRecords entryBytes
+  closing =
+      bytes-append (joined (entryOfWindow text (s .columns) pattern (s .height) (s .width)) (windows (s .rows) (s .columns) (s .height) (s .width))) _
+      ∙ ap (λ (xs : List ℕ). windowBytes text pattern s ++ xs)
+      (bytes-one (Closing (foundIn text (s .rows) (s .columns) pattern (s .height) (s .width)) (refusedIn text (s .rows) (s .columns) pattern (s .height) (s .width)))
+      ∙ ap₂ (λ (a b : ℕ). bytesOf (Closing a b)) (sym f) (sym r))
+
+  module _ (old : List ℕ) (room : length (searchListing text (s .rows) (s .columns) pattern (s .height) (s .width)) ≤ length old) where
+    room-front : 0 + length (searchListing text (s .rows) (s .columns) pattern (s .height) (s .width)) ≤ length old
+    room-front = omega (arith, room)
+
+    -- the windows find room
+    pub windows-room : length (windowBytes text pattern s) ≤ length old
+    windows-room = omega (arith, first-room old 0 (windowBytes text pattern s) (bytesOf (Closing found refused)) _ closing room-front)
+
+    module _ (new : List ℕ) (at : ℕ) (a : at ≡ length (windowBytes text pattern s)) (n : new ≡ written old 0 (windowBytes text pattern s)) where
+      at-front : at ≡ 0 + length (windowBytes text pattern s)
+      at-front = omega (arith, a)
+
+      -- so does the closing
+      pub closing-room : at + 5 ≤ length new
+      closing-room = second-room old 0 (windowBytes text pattern s) (bytesOf (Closing found refused)) _ closing room-front new at n at-front
+
+      -- and then the listing is whole
+      pub listing-whole : (last : List ℕ) → last ≡ written new at (bytesOf (Closing found refused))
+          → last ≡ bufferAfter 0 (searchListing text (s .rows) (s .columns) pattern (s .height) (s .width)) old
+      listing-whole last e =
+          both-written old 0 (windowBytes text pattern s) (bytesOf (Closing found refused)) _ closing room-front new at n at-front last (at + 5) e refl .1
+          ∙ written-front old (searchListing text (s .rows) (s .columns) pattern (s .height) (s .width))

@@ -1,0 +1,139 @@
+// The listing from the flags: the records of every window, row by row, and the closing.
+ghost use mathlib.Core.Path.{_≡_};
+ghost use Prim.Native.Nat.{ℕ, _+_, _*_, _≤_, _<_};
+ghost use lib.ListN.{length, replicate};
+ghost use Rattle.grid.specs.Shapes.{corners};
+ghost use Rattle.grid.specs.Refusals.{bufferAfter};
+ghost use Rattle.listing.specs.Records.{written};
+ghost use Rattle.search.specs.Listing.{windowPlace, searchListing, foundIn, refusedIn};
+ghost use Rattle.search.specs.Listing.Columns.{Older};
+ghost use Rattle.search.specs.Listing.Windows.{Flagged, SymbolPlaces, windowBytes};
+use crate::entries::places_of;
+use crate::entries::write_window;
+use grid::counts::Shape;
+use grid::symbols::Symbols;
+use grid::symbols::symbols_of;
+use listing::records::Record;
+use listing::records::write_record;
+use matching::compare::WindowPlace;
+
+// The window after v, row by row of corners. No number of a window is divided.
+fn next_window(v: WindowPlace, across: usize) -> WindowPlace
+    requires { ⌜ (across ≡ corners (v .columns) (v .width)) × (0 < across) × (v .column < across) × (v .row < 65025) ⌝ }
+    ensures { λ r. ⌜ ((k : ℕ) → v ≡ windowPlace (v .columns) (v .height) (v .width) k → r ≡ windowPlace (v .columns) (v .height) (v .width) (k + 1)) ⌝ }
+{
+    let column = v.column + 1;
+    if column < across {
+        return WindowPlace {
+            columns: v.columns,
+            row: v.row,
+            column,
+            height: v.height,
+            width: v.width,
+        };
+    }
+    WindowPlace {
+        columns: v.columns,
+        row: v.row + 1,
+        column: 0,
+        height: v.height,
+        width: v.width,
+    }
+}
+
+// The records of all windows, from the listing's first byte on; the place after them.
+fn write_windows(
+    text: &[u8],
+    pattern: &[u8],
+    s: Shape,
+    symbols: Symbols,
+    places: &[u16],
+    flags: &[u8],
+    forward: &mut [u32; 256],
+    backward: &mut [u32; 256],
+    listing: &mut [u8],
+) -> usize
+    requires { ⌜ Flagged (now text) (now pattern) s (now flags) × SymbolPlaces (now pattern) symbols (now places) × Older 256 (now forward) × Older 256 (now backward) × (length (windowBytes (now text) (now pattern) s) ≤ length (now listing)) ⌝ }
+    ensures { λ r. ⌜ r ≡ length (windowBytes (now (text .entry)) (now (pattern .entry)) s) ⌝ }
+    ensures { λ r. ⌜ now (listing .exit) ≡ written (now (listing .entry)) 0 (windowBytes (now (text .entry)) (now (pattern .entry)) s) ⌝ }
+{
+    let across = s.columns + 1 - s.width;
+    let n = (s.rows + 1 - s.height) * across;
+    let mut v = WindowPlace {
+        columns: s.columns,
+        row: 0,
+        column: 0,
+        height: s.height,
+        width: s.width,
+    };
+    let mut base = 256;
+    let mut at = 0;
+    let mut k = 0;
+    while k < n {
+        let flag = flags[k];
+        at = write_window(
+            text,
+            v,
+            pattern,
+            flag,
+            symbols,
+            places,
+            base,
+            forward,
+            backward,
+            listing,
+            at,
+        );
+        v = next_window(v, across);
+        base += 256;
+        k += 1;
+    }
+    at
+}
+
+// A column without entries.
+fn no_entries() -> [u32; 256]
+    ensures { λ r. ⌜ r ≡ replicate 256 0 ⌝ }
+{
+    [0u32; 256]
+}
+
+// No places yet.
+fn no_places() -> [u16; 256]
+    ensures { λ r. ⌜ r ≡ replicate 256 0 ⌝ }
+{
+    [0u16; 256]
+}
+
+// The second step of the search: the listing from the flags, where there is room for it.
+pub fn write_listing(
+    text: &[u8],
+    pattern: &[u8],
+    s: Shape,
+    found: u16,
+    refused: u16,
+    flags: &[u8],
+    listing: &mut [u8],
+)
+    requires { ⌜ Flagged (now text) (now pattern) s (now flags) × (found ≡ foundIn (now text) (s .rows) (s .columns) (now pattern) (s .height) (s .width)) × (refused ≡ refusedIn (now text) (s .rows) (s .columns) (now pattern) (s .height) (s .width)) × (length (searchListing (now text) (s .rows) (s .columns) (now pattern) (s .height) (s .width)) ≤ length (now listing)) ⌝ }
+    ensures { λ r. ⌜ now (listing .exit) ≡ bufferAfter 0 (searchListing (now (text .entry)) (s .rows) (s .columns) (now (pattern .entry)) (s .height) (s .width)) (now (listing .entry)) ⌝ }
+{
+    let symbols = symbols_of(pattern);
+    let mut places = no_places();
+    places_of(pattern, &mut places);
+    let mut forward = no_entries();
+    let mut backward = no_entries();
+    let at = write_windows(
+        text,
+        pattern,
+        s,
+        symbols,
+        &places,
+        flags,
+        &mut forward,
+        &mut backward,
+        listing,
+    );
+    let closing = Record::Closing { found, refused };
+    write_record(listing, at, closing);
+}

@@ -1,0 +1,19 @@
+-- Lists one after another.
+-- Assumes nothing.
+use mathlib.Core.Path.{_≡_, refl}
+use mathlib.Core.List.{List, [], _++_}
+use Prim.Native.Nat.{ℕ, zero, suc}
+
+-- f 0, f 1, .., f (n - 1), each of them a list
+unfoldable pub joined : {A : Type 0} → (ℕ → List A) → ℕ → List A
+joined f zero = []
+joined f (suc n) = joined f n ++ f n
+
+module _ {A : Type 0} where
+  pub joined-zero : (f : ℕ → List A) → joined f 0 ≡ []
+  unfolding joined
+  joined-zero f = refl
+
+  pub joined-suc : (f : ℕ → List A) (n : ℕ) → joined f (suc n) ≡ joined f n ++ f n
+  unfolding joined
+  joined-suc f n = refl
