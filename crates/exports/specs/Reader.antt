@@ -1,6 +1,6 @@
 -- How a record passes to Rust and C: its kind and the numbers of its body, and 0 for what it does not have.
 -- Assumes nothing.
-use mathlib.Core.Path.{_≡_, _∙_, ap}
+use mathlib.Core.Path.{_≡_, sym, _∙_, ap}
 use mathlib.Core.List.{List, [], _∷_}
 use Prim.Native.Nat.{ℕ}
 use Rattle.listing.specs.Reader.{Reads}
@@ -28,9 +28,15 @@ abbrev pub nextAfter : ℕ → Read → List ℕ
 nextAfter at (Whole item next) = next .at ∷ []
 nextAfter at (Refused why) = at ∷ []
 
--- the reader has one answer, so what holds of it holds of any that is right
-pub one-answer : (listing : List ℕ) (at : ℕ) (given : Read) (fields next old : List ℕ) → Reads listing at given → fields ≡ fieldsAfter given old → next ≡ nextAfter at given
-    → (answer : Read) → Reads listing at answer → (fields ≡ fieldsAfter answer old) × (next ≡ nextAfter at answer)
-one-answer listing at given fields next old h e d answer k =
-    let same : given ≡ answer = reads-is listing at given answer h k in
-    (e ∙ ap (λ (r : Read). fieldsAfter r old) same, d ∙ ap (nextAfter at) same)
+-- what reading at a place hands over: there is an answer of the reader, and the numbers and the place are its own
+pub record HandsOver (listing : List ℕ) (at : ℕ) (old fields next : List ℕ) : Type 0 where
+  pub answer : Read
+  pub reads : Reads listing at answer
+  pub fields-are : fields ≡ fieldsAfter answer old
+  pub next-is : next ≡ nextAfter at answer
+
+-- the reader has one answer, so nothing else can be handed over
+pub one-answer : (listing : List ℕ) (at : ℕ) (old f n g m : List ℕ) → HandsOver listing at old f n → HandsOver listing at old g m → (f ≡ g) × (n ≡ m)
+one-answer listing at old f n g m h k =
+    let same : h .answer ≡ k .answer = reads-is listing at (h .answer) (k .answer) (h .reads) (k .reads) in
+    (h .fields-are ∙ ap (λ (r : Read). fieldsAfter r old) same ∙ sym (k .fields-are), h .next-is ∙ ap (nextAfter at) same ∙ sym (k .next-is))

@@ -1,8 +1,7 @@
 // The reader of a listing for Rust and C.
 ghost use mathlib.Core.Path.{_≡_};
-ghost use Rattle.listing.specs.Reader.{cursorNumber, Reads};
-ghost use Rattle.listing.specs.declared.reader.Read.{Read};
-ghost use Rattle.exports.specs.Reader.{fieldsOf, fieldsAfter, nextAfter};
+ghost use Rattle.listing.specs.Reader.{cursorNumber};
+ghost use Rattle.exports.specs.Reader.{fieldsOf, HandsOver};
 use grid::refusals::refusal_number;
 use listing::reader::Cursor;
 use listing::reader::Read;
@@ -47,7 +46,7 @@ pub extern "C" fn colourway_read(
     next: &mut [usize; 1],
 ) -> u8
     ensures { λ r. ⌜ r ≡ cursorNumber (now (listing .entry)) at ⌝ }
-    ensures { λ r. ⌜ ((answer : Read) → Reads (now (listing .entry)) at answer → (now (fields .exit) ≡ fieldsAfter answer (now (fields .entry))) × (now (next .exit) ≡ nextAfter at answer)) ⌝ }
+    ensures { λ r. ⌜ HandsOver (now (listing .entry)) at (now (fields .entry)) (now (fields .exit)) (now (next .exit)) ⌝ }
 {
     let cursor = Cursor { at };
     let answer = cursor.read(listing);

@@ -27,6 +27,14 @@ pub record Covers (at : ℕ → ℕ → ℕ) (m n size : ℕ) : Type 0 where
   pub place : (k : ℕ) → k < size → (row k < m) × (column k < n) × (at (row k) (column k) ≡ k)
   pub inside : (i j : ℕ) → i < m → j < n → at i j < size
 
+-- stores of equal values at equal places
+pub stored-ext : (f g : ℕ → ℕ) (at : ℕ → ℕ) (n : ℕ) (l : List ℕ) → ((i : ℕ) → i < n → f (at i) ≡ g (at i)) → stored f at n l ≡ stored g at n l
+unfolding stored
+stored-ext f g at zero l h = refl
+stored-ext f g at (suc n) l h =
+    ap (λ (v : ℕ). set (stored f at n l) (at n) v) (h n (omega arith))
+    ∙ ap (λ (r : List ℕ). set r (at n) (g (at n))) (stored-ext f g at n l (λ i k. h i (omega arith)))
+
 -- entry v becomes f v: entry w is f w if it was before, or is v
 pub set-right : (l : List ℕ) (v n w : ℕ) (f : ℕ → ℕ) → w < length l → n ≡ f v → ((w ≡ v → ⊥) → getD l w 0 ≡ f w) → getD (set l v n) w 0 ≡ f w
 set-right l v n w f h e k = go (ℕ-discrete w v)

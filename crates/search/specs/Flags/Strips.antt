@@ -3,12 +3,12 @@
 -- Assumes nothing.
 use mathlib.Core.Path.{_≡_, refl, sym, _∙_, ap}
 use mathlib.Core.List.{List}
-use Prim.Native.Nat.{ℕ, zero, suc, _+_, _*_, _<_}
+use Prim.Native.Nat.{ℕ, _+_, _*_, _<_}
 use native.Mathlib.Omega.{arith}
-use lib.ListN.{length, getD, set}
+use lib.ListN.{length, getD}
 use Rattle.theory.specs.Test.{pick}
 use Rattle.theory.specs.Table.{table, table-is}
-use Rattle.theory.specs.Store.{stored}
+use Rattle.theory.specs.Store.{stored, stored-ext}
 use Rattle.theory.specs.Match.{answerOf}
 use Rattle.grid.specs.Windows.{windowAt, windowCells, stripAt, window-strip, cells-table, corner-row, corner-column}
 use Rattle.grid.specs.Distinct.{distinct}
@@ -46,14 +46,6 @@ pub record Ready (text pattern : List ℕ) (symbols : ℕ) (s : Shape) (counts :
 pub ready-still : {text pattern : List ℕ} {symbols : ℕ} {s : Shape} {counts : List ℕ} {links flags links′ flags′ : ℕ} → Ready text pattern symbols s counts links flags
     → links′ ≡ links → flags′ ≡ flags → Ready text pattern symbols s counts links′ flags′
 ready-still r e f = rw (e, f) r
-
--- stores of equal values at equal places
-stored-ext : (f g : ℕ → ℕ) (at : ℕ → ℕ) (n : ℕ) (l : List ℕ) → ((i : ℕ) → i < n → f (at i) ≡ g (at i)) → stored f at n l ≡ stored g at n l
-unfolding stored
-stored-ext f g at zero l h = refl
-stored-ext f g at (suc n) l h =
-    ap (λ (v : ℕ). set (stored f at n l) (at n) v) (h n (omega arith))
-    ∙ ap (λ (r : List ℕ). set r (at n) (g (at n))) (stored-ext f g at n l (λ i k. h i (omega arith)))
 
 module _ (text pattern : List ℕ) (symbols : ℕ) (s : Shape) (left : ℕ) (counts links : List ℕ)
     (shape : ShapeOf s (length text)) (strip : left < across s) (size : length pattern ≡ s .height * s .width)

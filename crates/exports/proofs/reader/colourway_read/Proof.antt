@@ -1,11 +1,11 @@
--- `reader::colourway_read` meets its contract: the reader's number and values, and no other answer is right (`one-answer`).
+-- `reader::colourway_read` meets its contract: what it hands over is the number and the values of the reader's answer.
 -- Assumes nothing.
 use mathlib.Core.Path.{sym, ap, _∙_}
 use borrow.Author.Needs.{needs}
 use denote.Ref.{now}
 use Rattle.listing.specs.Reader.{readNumber}
 use Rattle.listing.specs.declared.reader.Read.{Read}
-use Rattle.exports.specs.Reader.{fieldsAfter, nextAfter, one-answer}
+use Rattle.exports.specs.Reader.{fieldsAfter, nextAfter}
 use Rattle.exports.proofs.reader.colourway_read.Statement.{statement}
 use Rattle.exports.proofs.reader.colourway_read.Tie as tie
 
@@ -30,8 +30,12 @@ returns c =
     let r = c .before .before .before .before .before .read .ensures in
     let is = c .before .before .before .answer .given .1 in (
       sym (ap readNumber is) ∙ r .number,
-      one-answer (now (a .listing)) (a .at) _ _ _ (now (a .fields)) r
-          (c .before .fields-of .ensures ∙ sym (ap (λ (x : Read). fieldsAfter x (now (a .fields))) is)) (sym (ap (nextAfter (a .at)) is)),
+      record {
+        answer = c .before .before .before .before .before .read .result;
+        reads = r;
+        fields-are = c .before .fields-of .ensures ∙ sym (ap (λ (x : Read). fieldsAfter x (now (a .fields))) is);
+        next-is = sym (ap (nextAfter (a .at)) is);
+      },
     )
 
 returns-2 : tie.Need-returns-2
@@ -40,7 +44,12 @@ returns-2 c =
     let r = c .before .before .before .before .before .read .ensures in
     let is = c .before .before .before .answer2 .given .1 in (
       c .refusal-number .ensures ∙ sym (ap readNumber is) ∙ r .number,
-      one-answer (now (a .listing)) (a .at) _ _ _ (now (a .fields)) r (sym (ap (λ (x : Read). fieldsAfter x (now (a .fields))) is)) (sym (ap (nextAfter (a .at)) is)),
+      record {
+        answer = c .before .before .before .before .before .read .result;
+        reads = r;
+        fields-are = sym (ap (λ (x : Read). fieldsAfter x (now (a .fields))) is);
+        next-is = sym (ap (nextAfter (a .at)) is);
+      },
     )
 
 pub colourway-read-spec : {M : Type 1} → statement M
