@@ -103,4 +103,18 @@ extern "C" {
         fields: &mut [u16; 7],
         next: &mut [usize; 1],
     ) -> u8;
+
+    pub fn colourway_check(
+        text: *const u8,
+        text_length: usize,
+        rows: usize,
+        columns: usize,
+        pattern: *const u8,
+        pattern_length: usize,
+        height: usize,
+        width: usize,
+        listing: *const u8,
+        listing_length: usize,
+        totals: &mut [usize; 2],
+    ) -> u8;
 }

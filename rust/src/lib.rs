@@ -1,27 +1,29 @@
 //! Safe wrappers of the proved operations on texts, windows, symbol sets and bijections, of the one-window question, and of the search
-//! with its listing and the listing's reader.
+//! with its listing, the listing's reader and its check.
 //!
 //! A text (document 01's sheet) is `rows` by `columns` symbols (yarn numbers), one byte each, row by row. Each wrapper hands its
 //! arguments on to one function of the static library, `crates/exports`. No function there asks anything of its caller, so a wrapper
 //! tests nothing and can't be misused: an input that makes no sense is refused, by document 01's number.
 //!
 //! To build and test: `rt staticlib exports` at the repository's top, then `cargo test --release --offline` here. To measure the search
-//! beside a plain one: `cargo run --release --offline -p bench`.
+//! beside a plain one, and the check beside the search: `cargo run --release --offline -p bench`.
 
 mod bijections;
+mod check;
 mod compare;
 mod foreign;
 mod reader;
 mod search;
 
 pub use bijections::{Bijection, NONE};
+pub use check::{check, check_into, CheckRefusal, Checked};
 pub use compare::{one_window, one_window_into, WindowAnswer};
 pub use reader::{read, read_into, records, Place, ReadRefusal, Record, Records};
 pub use search::{search, search_into, Buffers, SearchRefusal, Totals};
 
 use std::fmt;
 
-/// By what an operation refuses its input, a buffer lent to it, a bijection or a cursor.
+/// By what an operation refuses its input, a buffer lent to it, a listing, a bijection or a cursor.
 #[derive(Clone, Copy, Debug, PartialEq, Eq)]
 #[repr(u8)]
 pub enum Refusal {
@@ -33,8 +35,11 @@ pub enum Refusal {
     TooLarge = 4,
     /// The window's corner, or the strip's column, is beyond the last at which the window or strip fits.
     CornerOutside = 5,
-    /// The listing has an unknown kind or a cut record at the cursor.
+    /// The listing has the wrong form: for the reader an unknown kind or a cut record, for the check also a kind that is not due, a
+    /// missing record, or bytes left over.
     ListingForm = 6,
+    /// The listing has a record of right form that states what is not so.
+    ListingFalse = 7,
     /// The links buffer is shorter than a strip.
     LinksBufferShort = 9,
     /// The flags or the counts buffer is shorter than the number of windows.
@@ -53,12 +58,13 @@ pub enum Refusal {
 
 impl Refusal {
     /// Every refusal, in the order of the numbers.
-    pub const ALL: [Refusal; 12] = [
+    pub const ALL: [Refusal; 13] = [
         Refusal::SideRange,
         Refusal::CellCount,
         Refusal::TooLarge,
         Refusal::CornerOutside,
         Refusal::ListingForm,
+        Refusal::ListingFalse,
         Refusal::LinksBufferShort,
         Refusal::WindowBufferShort,
         Refusal::ListingBufferShort,

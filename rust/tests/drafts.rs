@@ -196,7 +196,7 @@ fn a_symbol_is_gone_when_its_last_occurrence_is() {
 #[test]
 fn numbers_and_refusals_correspond() {
     let numbers = Refusal::ALL.map(Refusal::number);
-    assert_eq!(numbers, [2, 3, 4, 5, 6, 9, 10, 11, 12, 13, 14, 15]);
+    assert_eq!(numbers, [2, 3, 4, 5, 6, 7, 9, 10, 11, 12, 13, 14, 15]);
     assert_eq!(Refusal::from_number(5), Some(Refusal::CornerOutside));
     assert_eq!(Refusal::from_number(0), None);
     assert_eq!(Refusal::SideRange.to_string(), "refused 2");

@@ -1,4 +1,5 @@
-// Document 01's drafts, each under a heading: the records of its listing a line each, then the totals of the search; or the refusal.
+// Document 01's drafts, each under a heading: the records of its listing a line each, then the totals of the search; what the check counts; or the
+// refusal.
 mod printing;
 mod running;
 
@@ -7,6 +8,7 @@ use grid::strips::strip_links;
 use printing::print;
 use printing::print_line;
 use running::run;
+use running::run_check;
 use running::run_in;
 
 // The first draft's text, 2 by 3.
@@ -113,6 +115,63 @@ fn one_window() {
     run(&first_text(), 2, 3, &[1, 1, 2, 2, 1, 1], 2, 3);
 }
 
+// The first draft's listing, 21 bytes, and one byte more.
+fn first_listing() -> [u8; 22] {
+    [
+        1,
+        0,
+        0,
+        2,
+        1,
+        7,
+        2,
+        2,
+        3,
+        3,
+        0,
+        1,
+        0,
+        0,
+        0,
+        1,
+        5,
+        0,
+        1,
+        0,
+        1,
+        0,
+    ]
+}
+
+// The check of a listing for the first draft.
+fn check_first(listing: &[u8]) {
+    run_check(&first_text(), 2, 3, &first_pattern(), 2, 2, listing);
+}
+
+// Listings that are kept: the first draft's own, and the same with another true mismatch.
+fn kept_listings() {
+    let mut listing = first_listing();
+    print(b"check of the first draft\n");
+    check_first(&listing[..21]);
+    listing[9] = 4;
+    listing[14] = 1;
+    listing[15] = 0;
+    print(b"check of the first draft, mismatch 4 0 1 0 0 1 0 for 3 0 1 0 0 0 1\n");
+    check_first(&listing[..21]);
+}
+
+// Listings that are refused.
+fn refused_listings() {
+    let mut listing = first_listing();
+    listing[5] = 3;
+    print(b"check of the first draft, pair 2 1 3 for 2 1 7\n");
+    check_first(&listing[..21]);
+    print(b"check of the first draft, empty listing\n");
+    check_first(&listing[..0]);
+    print(b"check of the first draft, one byte more\n");
+    check_first(&first_listing());
+}
+
 fn main() {
     first_draft();
     small_drafts();
@@ -121,4 +180,6 @@ fn main() {
     empty_sides();
     long_sides();
     one_window();
+    kept_listings();
+    refused_listings();
 }

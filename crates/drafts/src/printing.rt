@@ -65,25 +65,43 @@ fn print_record(item: Record) {
     }
 }
 
-// A refusal by its number, and under refusal 11 the length that is needed.
+// A number with its name before it, on a line.
+fn print_named(name: &[u8], n: usize) {
+    print(name);
+    print_number(n as u64);
+    print(b"\n");
+}
+
+// A refusal by its number; under refusal 11 the length that is needed, under 6, 7 and 15 the place in the listing.
 pub fn print_refusal(why: Refusal) {
     print(b"refused ");
     print_line(&[refusal_number(why) as u16]);
-    if let Refusal::ListingBufferShort(needed) = why {
-        print(b"needs ");
-        print_number(needed as u64);
-        print(b"\n");
+    match why {
+        Refusal::ListingBufferShort(needed) => print_named(b"needs ", needed),
+        Refusal::ListingForm(at) => print_named(b"at ", at),
+        Refusal::ListingFalse(at) => print_named(b"at ", at),
+        Refusal::CursorSpent(at) => print_named(b"at ", at),
+        _ => {}
     }
 }
 
-// What a search counted, and the length of its listing.
-pub fn print_totals(found: u16, refused: u16, length: usize) {
+// How many windows are found and how many refused, with no end of the line.
+fn print_found(found: u16, refused: u16) {
     print(b"found ");
     print_number(found as u64);
     print(b" refused ");
     print_number(refused as u64);
-    print(b" length ");
-    print_number(length as u64);
+}
+
+// What a search counted, and the length of its listing.
+pub fn print_totals(found: u16, refused: u16, length: usize) {
+    print_found(found, refused);
+    print_named(b" length ", length);
+}
+
+// What a check counted.
+pub fn print_counts(found: u16, refused: u16) {
+    print_found(found, refused);
     print(b"\n");
 }
 

@@ -1,9 +1,12 @@
-// A draft run: the search over buffers of its own, and its answer printed.
+// A draft run: the search over buffers of its own, or the check of a listing, and the answer printed.
+use crate::printing::print_counts;
 use crate::printing::print_listing;
 use crate::printing::print_refusal;
 use crate::printing::print_totals;
 use search::search::Searched;
 use search::search::search;
+use verify::check::Checked;
+use verify::check::check;
 
 // Searches with the listing buffer that is lent, and prints the records of the listing and the totals, or the refusal.
 pub fn run_in(
@@ -47,4 +50,21 @@ pub fn run_in(
 pub fn run(text: &[u8], rows: usize, columns: usize, pattern: &[u8], height: usize, width: usize) {
     let mut listing = [0u8; 64];
     run_in(text, rows, columns, pattern, height, width, &mut listing);
+}
+
+// Checks a listing, and prints what stands in it as found and as refused, or the refusal with the place of the first bad record.
+pub fn run_check(
+    text: &[u8],
+    rows: usize,
+    columns: usize,
+    pattern: &[u8],
+    height: usize,
+    width: usize,
+    listing: &[u8],
+) {
+    let answer = check(text, rows, columns, pattern, height, width, listing);
+    match answer {
+        Checked::Kept { found, refused } => print_counts(found, refused),
+        Checked::Refused(why) => print_refusal(why),
+    }
 }

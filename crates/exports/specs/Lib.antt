@@ -1,4 +1,5 @@
 pub mod Bijections
+pub mod Checking
 pub mod Compare
 pub mod Reader
 pub mod Searching

@@ -3,7 +3,7 @@
 use Prim.Native.Nat.{ℕ}
 use mathlib.Core.List.{List, [], _∷_}
 use lib.ListN.{getD}
-use Rattle.grid.specs.declared.symbols.Symbols.{Symbols}
+use Rattle.sets.specs.declared.symbols.Symbols.{Symbols}
 
 -- a set's words, lowest symbols first
 abbrev pub wordsOf : Symbols → List ℕ

@@ -1,8 +1,8 @@
 // Sets of symbols for Rust and C: a set passes as four words.
 ghost use mathlib.Core.Path.{_≡_};
-ghost use Rattle.grid.specs.Symbols.{symbolSet, sizeOf, lowestOf, withoutSymbol};
+ghost use Rattle.sets.specs.Symbols.{symbolSet, sizeOf, lowestOf, withoutSymbol};
 ghost use Rattle.exports.specs.Symbols.{wordsOf, symbolsIn};
-use grid::symbols::Symbols;
+use sets::symbols::Symbols;
 
 // A set's four words.
 fn words_of(s: Symbols) -> [u64; 4]
@@ -28,7 +28,7 @@ fn symbols_in(words: &[u64; 4]) -> Symbols
 pub extern "C" fn colourway_symbols(pattern: &[u8], words: &mut [u64; 4])
     ensures { λ r. ⌜ now (words .exit) ≡ wordsOf (symbolSet (now (pattern .entry))) ⌝ }
 {
-    *words = words_of(grid::symbols::symbols_of(pattern));
+    *words = words_of(sets::symbols::symbols_of(pattern));
 }
 
 // How many symbols are in a set.

@@ -5,5 +5,4 @@ pub mod Strips
 pub mod Distinct
 pub mod Occurrences
 pub mod Counts
-pub mod Symbols
 pub mod Examples

@@ -80,8 +80,8 @@ links-kept text rows columns width left links h = buffer-refused _ _ links h
 -- What the inner functions' contracts cite.
 
 -- the strip's symbols by position
-abbrev pub symbolsOf : List ℕ → Strip → ℕ → ℕ
-symbolsOf text t = stripAt text (t .columns) (t .left) (t .width)
+abbrev pub stripSymbols : List ℕ → Strip → ℕ → ℕ
+stripSymbols text t = stripAt text (t .columns) (t .left) (t .width)
 
 -- a strip of a text of that many cells
 pub record StripOf (t : Strip) (cells : ℕ) : Type 0 where

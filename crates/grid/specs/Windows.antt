@@ -178,17 +178,17 @@ cells-byte text rowWidth row column height width bytes i h =
     rw (cells-table text rowWidth row column height width, getD-table (windowAt text rowWidth row column width) (height * width) i 0 l, window-at text rowWidth row column width i)
     (bytes _)
 
-pub example-text : List ℕ
+-- the text: an abbreviation, so that a statement of another crate may write its cells out
+abbrev pub example-text : List ℕ
 example-text = 7 ∷ 7 ∷ 3 ∷ 3 ∷ 7 ∷ 7 ∷ []
 
 pub example-cells : (windowCells example-text 3 0 0 2 2 ≡ 7 ∷ 7 ∷ 3 ∷ 7 ∷ []) × (windowCells example-text 3 0 1 2 2 ≡ 7 ∷ 3 ∷ 7 ∷ 7 ∷ [])
-unfolding example-text windowCells windowAt place table
+unfolding windowCells windowAt place table
 example-cells = (refl, refl)
 
 pub example-strips : (table (stripAt example-text 3 0 2) 4 ≡ 7 ∷ 7 ∷ 3 ∷ 7 ∷ []) × (table (stripAt example-text 3 1 2) 4 ≡ 7 ∷ 3 ∷ 7 ∷ 7 ∷ [])
-unfolding example-text stripAt windowAt place table
+unfolding stripAt windowAt place table
 example-strips = (refl, refl)
 
 pub example-length : length example-text ≡ 6
-unfolding example-text
 example-length = refl

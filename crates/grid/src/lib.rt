@@ -1,8 +1,7 @@
-// The lower library: refusals and shapes, window reads, strips and links, distinct counts, symbol sets.
+// The lower library: refusals and shapes, window reads, strips and links, distinct counts.
 // What stands above relies on the contracts here and on the laws of specs/, never on how a function does it.
 pub mod counts;
 pub mod refusals;
 pub mod shapes;
 pub mod strips;
-pub mod symbols;
 pub mod windows;

@@ -6,7 +6,7 @@ ghost use lib.ListN.{length};
 ghost use Rattle.theory.specs.Test.{pick};
 ghost use Rattle.theory.specs.Store.{storedRows};
 ghost use Rattle.grid.specs.Refusals.{outcomeNumber};
-ghost use Rattle.grid.specs.Strips.{link, linksNumber, linksAfter, symbolsOf, StripOf, LastPlaces, RowAt, Linkable, LinkedRow};
+ghost use Rattle.grid.specs.Strips.{link, linksNumber, linksAfter, stripSymbols, StripOf, LastPlaces, RowAt, Linkable, LinkedRow};
 use crate::refusals::Outcome;
 use crate::refusals::Refusal;
 use crate::shapes::corner_inside;
@@ -58,7 +58,7 @@ fn link_row(row: &[u8], base: usize, last: &mut [u16; 256], links: &mut [u16])
 // The links of a strip, row by row.
 fn link_rows(text: &[u8], t: Strip, links: &mut [u16])
     requires { ⌜ StripOf t (length (now text)) × (t .rows * t .width ≤ length (now links)) ⌝ }
-    ensures { λ r. ⌜ now (links .exit) ≡ storedRows (link (symbolsOf (now (text .entry)) t)) (λ i j. i * t .width + j) (t .rows) (t .width) (now (links .entry)) ⌝ }
+    ensures { λ r. ⌜ now (links .exit) ≡ storedRows (link (stripSymbols (now (text .entry)) t)) (λ i j. i * t .width + j) (t .rows) (t .width) (now (links .entry)) ⌝ }
 {
     let rows = t.rows;
     let mut last = no_places();

@@ -1,12 +1,18 @@
--- What stands in a listing for one window, as records and as bytes: the records of its one-window answer.
+-- What stands in a listing for one window, as records and as bytes: the records of an answer, be it the search's own or another that is true.
 -- Assumes nothing.
 use mathlib.Core.Path.{_≡_, refl, sym, _∙_, ap}
 use mathlib.Core.Bool.{Bool, true, false}
 use mathlib.Core.List.{List, [], _∷_, _++_, append-nil, append-assoc}
+use mathlib.Core.Logic.{_↔_}
 use Prim.Native.Nat.{ℕ, suc, _+_, _*_, _/_, _%_, _<_}
 use native.Mathlib.Omega.{arith}
 use lib.ListN.{length, getD}
-use Rattle.theory.specs.Match.{Answer, matched, mismatched}
+use Rattle.theory.specs.Test.{is-true, says-true}
+use Rattle.theory.specs.Count.{Entry, Rising, members-iff, members-rising}
+use Rattle.theory.specs.Match.{Maps, Answer, matched, mismatched}
+use Rattle.sets.specs.Symbols.{symbolsOf}
+use Rattle.grid.specs.Distinct.{contains}
+use Rattle.grid.specs.Distinct.Sets.{contains-tested}
 use Rattle.listing.specs.Records.{bytesOf}
 use Rattle.listing.specs.declared.records.Place.{Place}
 use Rattle.listing.specs.declared.records.Spoiled.{Spoiled}
@@ -40,6 +46,12 @@ mismatchRecord false body = AlikeInWindow body
 unfoldable pub entryOf : ℕ → ℕ → ℕ → List ℕ → (ℕ → ℕ) → Answer → List Record
 entryOf row column width symbols image matched = Found row column ∷ pairsOf image symbols
 entryOf row column width symbols image (mismatched side q p) = mismatchRecord side (spoiledAt row column width q p) ∷ []
+
+-- a found window's pairs are right: one for each symbol of the pattern, rising, and their images carry the pattern onto the window w, one-to-one
+pub record RightPairs (pattern : List ℕ) (w : ℕ → ℕ) (n : ℕ) (symbols : List ℕ) (image : ℕ → ℕ) : Type 0 where
+  pub rising : Rising symbols
+  pub just : (a : ℕ) → Entry symbols a ↔ ((p : ℕ) × (p < length pattern) × (getD pattern p 0 ≡ a))
+  pub maps : Maps (λ p. getD pattern p 0) w n image
 
 -- ---- bytes of records
 
@@ -83,6 +95,20 @@ pairs-ext f g [] h = refl
 pairs-ext f g (a ∷ xs) h =
     ap (λ (x : ℕ). Pair a x ∷ pairsOf f xs) (h 0 (omega arith))
     ∙ ap (λ (rs : List Record). Pair a (g a) ∷ rs) (pairs-ext f g xs (λ i l. h (suc i) (omega arith)))
+
+-- ---- right pairs
+
+-- the symbols of a pattern are just those that stand in it
+symbols-just : (pattern : List ℕ) → ((k : ℕ) → getD pattern k 0 < 256) → (a : ℕ) → Entry (symbolsOf pattern) a ↔ ((p : ℕ) × (p < length pattern) × (getD pattern p 0 ≡ a))
+symbols-just pattern bytes a = (
+  (λ e. says-true (contains-tested pattern a) (members-iff (contains pattern) 256 a .0 e .1)),
+  (λ e. members-iff (contains pattern) 256 a .1 (rw (← (e .2)) (bytes (e .0)), is-true (contains-tested pattern a) e)),
+)
+
+-- so a mapping that carries the pattern onto a window makes right pairs with them
+pub right-pairs : (pattern : List ℕ) (w : ℕ → ℕ) (n : ℕ) (image : ℕ → ℕ) → ((k : ℕ) → getD pattern k 0 < 256) → Maps (λ p. getD pattern p 0) w n image
+    → RightPairs pattern w n (symbolsOf pattern) image
+right-pairs pattern w n image bytes maps = record { rising = members-rising (contains pattern) 256; just = symbols-just pattern bytes; maps = maps }
 
 -- ---- entries
 

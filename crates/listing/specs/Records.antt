@@ -1,4 +1,4 @@
--- Document 01's records: the bytes of each. Reader and writer share this one function, and the check will.
+-- Document 01's records: the bytes of each. Reader and writer share this one function, and what the check accepts is said with it.
 -- Assumes nothing.
 use mathlib.Core.List.{List, [], _∷_, _++_}
 use Prim.Native.Nat.{ℕ, _+_, _/_, _%_}

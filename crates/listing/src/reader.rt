@@ -142,4 +142,17 @@ impl Cursor {
             _ => Read::Refused(Refusal::ListingForm(at)),
         }
     }
+
+    // The same, for a caller that waits for a pair: where a byte of kind 2 stands, the other kinds are not asked after.
+    pub fn read_pair_first(self, listing: &[u8]) -> Read
+        ensures { λ r. ⌜ Reads (now (listing .entry)) (self .at) r ⌝ }
+    {
+        let at = self.at;
+        if at < listing.len() {
+            if listing[at] == 2 {
+                return read_pair(listing, at);
+            }
+        }
+        self.read(listing)
+    }
 }

@@ -1,6 +1,7 @@
 -- Document 01's one-window question: the pattern against the window of its size at a corner, read in place.
 -- Assumes nothing.
 pub mod Walks
+pub mod Rows
 pub mod Scans
 pub mod Accepted
 pub mod Verdicts

@@ -1,4 +1,6 @@
 pub mod Bijections
 pub mod Compare
+pub mod Places
+pub mod Windows
 pub mod Theorems
 pub mod Examples

@@ -17,7 +17,7 @@ use borrow.Author.Tests.{eq-eqb, ne-eqb, lt-ltb, le-ltb}
 use Rattle.theory.specs.Test.{pick, both, Tested, holds, fails, is-true, is-false, says-true, says-false, true-false, tested-same, tested-iff, eq-tested, lt-tested, both-tested}
 use Rattle.theory.specs.First.{every, every-tested}
 use Rattle.theory.specs.Table.{table}
-use Rattle.theory.specs.Match.{Matches, Answer, matched, mismatched, answerOf}
+use Rattle.theory.specs.Match.{Matches, Answer, matched, mismatched, isMatch, answerOf}
 use Rattle.theory.specs.Match.Answers.{match-iff}
 use Rattle.grid.specs.Shapes.{corners, product-le}
 use Rattle.grid.specs.Windows.{windowAt, cornerRow, cornerColumn, corner-row, corner-column}
@@ -27,11 +27,6 @@ use Rattle.grid.specs.Counts.{ShapeOf, across, down}
 use Rattle.grid.specs.declared.counts.Shape.{Shape}
 use Rattle.matching.specs.Compare.{patternAt}
 use Rattle.search.specs.Observations.{flag-match}
-
--- an answer says that the pattern matches
-abbrev pub isMatch : Answer → Bool
-isMatch matched = true
-isMatch (mismatched side q p) = false
 
 -- the answer of the one-window question for window k
 abbrev pub answerAt : List ℕ → ℕ → List ℕ → ℕ → ℕ → ℕ → Answer

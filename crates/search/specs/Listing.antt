@@ -12,21 +12,18 @@ use mathlib.Core.Bool.{not}
 use mathlib.Core.List.{List, [], _∷_, _++_}
 use Prim.Native.Nat.{ℕ, _+_, _*_}
 use Rattle.theory.specs.Join.{joined}
-use Rattle.theory.specs.Count.{count, members}
-use Rattle.theory.specs.Match.{imageOf, answerOf}
+use Rattle.theory.specs.Count.{count}
+use Rattle.theory.specs.Match.{isMatch, imageOf, answerOf}
 use Rattle.grid.specs.Shapes.{corners, windows}
 use Rattle.grid.specs.Windows.{windowAt, cornerRow, cornerColumn}
-use Rattle.grid.specs.Distinct.{contains, distinct}
+use Rattle.sets.specs.Symbols.{symbolsOf}
+use Rattle.grid.specs.Distinct.{distinct}
 use Rattle.matching.specs.Compare.{patternAt, windowOf, cellsOf}
 use Rattle.matching.specs.declared.compare.WindowPlace.{WindowPlace}
 use Rattle.listing.specs.Entries.{entryOf, bytesAll}
 use Rattle.listing.specs.declared.records.Record.{Record}
 use Rattle.listing.specs.declared.records.Record.the-variants.{Closing}
-use Rattle.search.specs.Flags.{isMatch, answerAt}
-
--- the symbols of a pattern, rising
-abbrev pub symbolsOf : List ℕ → List ℕ
-symbolsOf pattern = members (contains pattern) 256
+use Rattle.search.specs.Flags.{answerAt}
 
 -- the image of each symbol in window k
 abbrev pub imageAt : List ℕ → ℕ → List ℕ → ℕ → ℕ → ℕ → ℕ → ℕ
@@ -74,14 +71,3 @@ abbrev pub entryAt : List ℕ → List ℕ → WindowPlace → List Record
 entryAt text pattern v =
     entryOf (v .row) (v .column) (v .width) (symbolsOf pattern) (imageOf (patternAt pattern) (windowOf text v) (cellsOf v))
     (answerOf (patternAt pattern) (windowOf text v) (cellsOf v))
-
--- the place of window k: its corner is at row k / across and column k % across
-abbrev pub windowPlace : ℕ → ℕ → ℕ → ℕ → WindowPlace
-windowPlace columns height width k =
-    record {
-      columns = columns;
-      row = cornerRow (corners columns width) k;
-      column = cornerColumn (corners columns width) k;
-      height = height;
-      width = width;
-    }

@@ -10,17 +10,16 @@ use Prim.Native.Nat.{ℕ, _+_, _-_, _*_, _<_}
 use native.Mathlib.Omega.{arith}
 use lib.ListN.{length, getD, take, List·getD-append}
 use lib.Seq.{take-append-seam}
-use Rattle.theory.specs.Test.{says-true, is-true}
 use Rattle.theory.specs.Table.{table, length-table, getD-table}
-use Rattle.theory.specs.Count.{Entry, Rising, members-iff, members-pass, members-rising}
+use Rattle.theory.specs.Count.{members-pass}
 use Rattle.theory.specs.Match.{Matches, Answer, matched, mismatched, answerOf, imageOf}
-use Rattle.theory.specs.Match.Even.{maps-even, even-carries}
+use Rattle.theory.specs.Match.Even.{maps-even, even-maps}
 use Rattle.theory.specs.Match.Answers.{LeastMismatch, match-iff, mismatch-iff}
 use Rattle.theory.specs.Match.Images.{column-at}
 use Rattle.grid.specs.Shapes.{corners, windows, Sized}
 use Rattle.grid.specs.Windows.{windowAt, corner-row, corner-column}
+use Rattle.sets.specs.Symbols.{symbolsOf}
 use Rattle.grid.specs.Distinct.{contains}
-use Rattle.grid.specs.Distinct.Sets.{contains-tested}
 use Rattle.grid.specs.Counts.{countsAfter, counts-accepted, counts-after, windowCount}
 use Rattle.matching.specs.Compare.{patternAt, windowNumber, verdictOf, bijectionOf, bijectionBeside, Answers}
 use Rattle.matching.specs.Theorems.{verdict-right}
@@ -30,12 +29,12 @@ use Rattle.matching.specs.declared.compare.WindowAnswer.{WindowAnswer}
 use Rattle.listing.specs.Records.{bytesOf}
 use Rattle.listing.specs.Reader.{Reads}
 use Rattle.listing.specs.RoundTrip.{round-trip-reads}
-use Rattle.listing.specs.Entries.{bytesAll, bytes-cons, bytes-append, pairsOf, pairs-ext, spoiledAt, mismatchRecord, entryOf, entry-found, entry-refused}
+use Rattle.listing.specs.Entries.{bytesAll, bytes-cons, bytes-append, pairsOf, pairs-ext, spoiledAt, mismatchRecord, RightPairs, right-pairs, entryOf, entry-found, entry-refused}
 use Rattle.listing.specs.declared.records.Record.{Record}
 use Rattle.listing.specs.declared.records.Record.the-variants.{Found}
 use Rattle.listing.specs.declared.reader.Read.the-variants.{Whole}
 use Rattle.search.specs.Flags.{windowFlag, flag-one}
-use Rattle.search.specs.Listing.{symbolsOf, entryOfWindow, foundIn, refusedIn, searchRecords, searchListing, neededLength}
+use Rattle.search.specs.Listing.{entryOfWindow, foundIn, refusedIn, searchRecords, searchListing, neededLength}
 use Rattle.search.specs.Listing.Totals.{found-refused}
 use Rattle.search.specs.Listing.Length.{length-listing}
 use Rattle.search.specs.Search.{roomNumber, searchNumber, countsAfterSearch, flagsAfterSearch, listingAfterSearch}
@@ -85,25 +84,13 @@ module _ (text : List ℕ) (columns : ℕ) (pattern : List ℕ) (height width ro
   entry-mismatched side q p e =
       entry-is ∙ ap (entryOf row column width (symbolsOf pattern) (imageOf m w n)) e ∙ entry-refused row column width (symbolsOf pattern) (imageOf m w n) side q p
 
-  -- one pair for each symbol of the pattern, rising, each with the window's symbol in all of that symbol's cells
-  pub record RightPairs (symbols : List ℕ) (image : ℕ → ℕ) : Type 0 where
-    pub rising : Rising symbols
-    pub just : (a : ℕ) → a < 256 → Entry symbols a ↔ ((p : ℕ) × (p < length pattern) × (m p ≡ a))
-    pub carries : (p : ℕ) → p < n → image (m p) ≡ w p
-
-  symbols-just : (a : ℕ) → a < 256 → Entry (symbolsOf pattern) a ↔ ((p : ℕ) × (p < length pattern) × (m p ≡ a))
-  symbols-just a h = (
-    (λ e. says-true (contains-tested pattern a) (members-iff (contains pattern) 256 a .0 e .1)),
-    (λ e. members-iff (contains pattern) 256 a .1 (h, is-true (contains-tested pattern a) e)),
-  )
-
   -- DEMANDS 2 and 3, a window found: where the pattern matches, the window stands as found, with its bijection
-  pub found-entry : Matches m w n → (symbols : List ℕ) × (image : ℕ → ℕ) × RightPairs symbols image × (entry ≡ Found row column ∷ pairsOf image symbols)
-  found-entry (f, r) =
+  pub found-entry : ((k : ℕ) → getD pattern k 0 < 256) → Matches m w n → (symbols : List ℕ) × (image : ℕ → ℕ) × RightPairs pattern w n symbols image × (entry ≡ Found row column ∷ pairsOf image symbols)
+  found-entry bytes (f, r) =
       let ev = maps-even m w n f r in (
         symbolsOf pattern,
         imageOf m w n,
-        record { rising = members-rising (contains pattern) 256; just = symbols-just; carries = even-carries m w n ev },
+        right-pairs pattern w n (imageOf m w n) bytes (even-maps m w n ev),
         entry-matched (match-iff m w n .1 (f, r)),
       )
 

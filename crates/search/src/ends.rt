@@ -6,7 +6,8 @@ ghost use Prim.Native.Nat.{_+_, _≤_, _<_};
 ghost use lib.ListN.{length};
 ghost use Rattle.theory.specs.Match.{firstEnd};
 ghost use Rattle.matching.specs.Compare.{patternAt, windowOf, cellsOf, Placed};
-ghost use Rattle.search.specs.Listing.Columns.{Older, PairsUp};
+ghost use Rattle.theory.specs.Older.{Older};
+ghost use Rattle.search.specs.Listing.Columns.{PairsUp};
 ghost use Rattle.search.specs.Listing.Rows.{EndsRow};
 use matching::compare::WindowPlace;
 

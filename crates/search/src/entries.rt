@@ -3,14 +3,14 @@ ghost use mathlib.Core.Path.{_≡_};
 ghost use Prim.Native.Nat.{_+_, _≤_, _<_};
 ghost use lib.ListN.{length};
 ghost use Rattle.matching.specs.Compare.{cellsOf, Placed};
+ghost use Rattle.matching.specs.Windows.{Small};
 ghost use Rattle.listing.specs.Records.{written};
 ghost use Rattle.listing.specs.Entries.{bytesAll, spoiledAt, mismatchRecord};
 ghost use Rattle.search.specs.Listing.{entryAt};
-ghost use Rattle.search.specs.Listing.Columns.{Older};
+ghost use Rattle.theory.specs.Older.{Older};
 ghost use Rattle.search.specs.Listing.Pairs.{pairBytes};
-ghost use Rattle.search.specs.Listing.Entries.{PlacesOf, Small, imagesAt, foundRecords, Standing, Unmatched, Answered};
+ghost use Rattle.search.specs.Listing.Entries.{imagesAt, foundRecords, Standing, Unmatched, Answered};
 use crate::ends::first_end;
-use grid::symbols::Symbols;
 use listing::records::Place;
 use listing::records::Record;
 use listing::records::Spoiled;
@@ -18,19 +18,7 @@ use listing::records::write_record;
 use matching::compare::WindowPlace;
 use matching::compare::earlier_cell;
 use matching::compare::symbol_at;
-
-// A place in the pattern for each of its symbols. Any will do: where the pattern matches, all places of a symbol have the same window symbol.
-pub fn places_of(pattern: &[u8], places: &mut [u16; 256])
-    requires { ⌜ (length (now pattern) ≤ 65025) × (length (now places) ≡ 256) ⌝ }
-    ensures { λ r. ⌜ PlacesOf (now (pattern .entry)) (now (places .exit)) ⌝ }
-{
-    let mut p = 0;
-    while p < pattern.len() {
-        let a = pattern[p] as usize;
-        places[a] = p as u16;
-        p += 1;
-    }
-}
+use sets::symbols::Symbols;
 
 // The pairs of a found window, the pattern's symbols rising: each with the window's symbol at its place.
 fn write_pairs(

@@ -15,7 +15,7 @@ ghost use Rattle.search.specs.Flags.Links.{Kept};
 use grid::counts::Shape;
 use grid::counts::distinct_counts;
 use grid::strips::strip_links;
-use grid::symbols::symbols_of;
+use sets::symbols::symbols_of;
 
 // Whether the link of a position leads out of the window, or to a position with the same symbol in the pattern. No link, 0, leads to the position itself.
 fn link_agrees(pattern: &[u8], p: usize, d: usize) -> bool

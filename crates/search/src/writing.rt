@@ -1,45 +1,22 @@
 // The listing from the flags: the records of every window, row by row, and the closing.
 ghost use mathlib.Core.Path.{_≡_};
-ghost use Prim.Native.Nat.{ℕ, _+_, _*_, _≤_, _<_};
+ghost use Prim.Native.Nat.{_≤_};
 ghost use lib.ListN.{length, replicate};
-ghost use Rattle.grid.specs.Shapes.{corners};
 ghost use Rattle.grid.specs.Refusals.{bufferAfter};
 ghost use Rattle.listing.specs.Records.{written};
-ghost use Rattle.search.specs.Listing.{windowPlace, searchListing, foundIn, refusedIn};
-ghost use Rattle.search.specs.Listing.Columns.{Older};
+ghost use Rattle.search.specs.Listing.{searchListing, foundIn, refusedIn};
+ghost use Rattle.theory.specs.Older.{Older};
 ghost use Rattle.search.specs.Listing.Windows.{Flagged, SymbolPlaces, windowBytes};
-use crate::entries::places_of;
 use crate::entries::write_window;
 use grid::counts::Shape;
-use grid::symbols::Symbols;
-use grid::symbols::symbols_of;
 use listing::records::Record;
 use listing::records::write_record;
 use matching::compare::WindowPlace;
-
-// The window after v, row by row of corners. No number of a window is divided.
-fn next_window(v: WindowPlace, across: usize) -> WindowPlace
-    requires { ⌜ (across ≡ corners (v .columns) (v .width)) × (0 < across) × (v .column < across) × (v .row < 65025) ⌝ }
-    ensures { λ r. ⌜ ((k : ℕ) → v ≡ windowPlace (v .columns) (v .height) (v .width) k → r ≡ windowPlace (v .columns) (v .height) (v .width) (k + 1)) ⌝ }
-{
-    let column = v.column + 1;
-    if column < across {
-        return WindowPlace {
-            columns: v.columns,
-            row: v.row,
-            column,
-            height: v.height,
-            width: v.width,
-        };
-    }
-    WindowPlace {
-        columns: v.columns,
-        row: v.row + 1,
-        column: 0,
-        height: v.height,
-        width: v.width,
-    }
-}
+use matching::places::no_places;
+use matching::places::places_of;
+use matching::windows::next_window;
+use sets::symbols::Symbols;
+use sets::symbols::symbols_of;
 
 // The records of all windows, from the listing's first byte on; the place after them.
 fn write_windows(
@@ -96,13 +73,6 @@ fn no_entries() -> [u32; 256]
     ensures { λ r. ⌜ r ≡ replicate 256 0 ⌝ }
 {
     [0u32; 256]
-}
-
-// No places yet.
-fn no_places() -> [u16; 256]
-    ensures { λ r. ⌜ r ≡ replicate 256 0 ⌝ }
-{
-    [0u16; 256]
 }
 
 // The second step of the search: the listing from the flags, where there is room for it.

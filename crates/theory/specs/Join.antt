@@ -1,8 +1,9 @@
 -- Lists one after another.
 -- Assumes nothing.
-use mathlib.Core.Path.{_≡_, refl}
+use mathlib.Core.Path.{_≡_, refl, ap₂}
 use mathlib.Core.List.{List, [], _++_}
-use Prim.Native.Nat.{ℕ, zero, suc}
+use Prim.Native.Nat.{ℕ, zero, suc, _<_}
+use native.Mathlib.Omega.{arith}
 
 -- f 0, f 1, .., f (n - 1), each of them a list
 unfoldable pub joined : {A : Type 0} → (ℕ → List A) → ℕ → List A
@@ -17,3 +18,9 @@ module _ {A : Type 0} where
   pub joined-suc : (f : ℕ → List A) (n : ℕ) → joined f (suc n) ≡ joined f n ++ f n
   unfolding joined
   joined-suc f n = refl
+
+  -- the same lists in the same order
+  pub joined-ext : (f g : ℕ → List A) (n : ℕ) → ((k : ℕ) → k < n → f k ≡ g k) → joined f n ≡ joined g n
+  unfolding joined
+  joined-ext f g zero h = refl
+  joined-ext f g (suc n) h = ap₂ (λ (xs ys : List A). xs ++ ys) (joined-ext f g n (λ k l. h k (omega arith))) (h n (omega arith))

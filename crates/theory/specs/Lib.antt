@@ -4,5 +4,6 @@ pub mod Table
 pub mod Join
 pub mod Count
 pub mod Store
+pub mod Older
 pub mod Match
 pub mod Columns

@@ -63,6 +63,11 @@ pub data Answer : Type 0 where
   matched : Answer
   mismatched : Bool → ℕ → ℕ → Answer
 
+-- an answer says that the pattern matches
+abbrev pub isMatch : Answer → Bool
+isMatch matched = true
+isMatch (mismatched side q p) = false
+
 -- the mismatch that ends at p, where some does, and begins first
 unfoldable pub mismatchEnding : (ℕ → ℕ) → (ℕ → ℕ) → ℕ → Answer
 mismatchEnding m w p = mismatched (eqb (m (earliest m w p)) (m p)) (earliest m w p) p

@@ -6,6 +6,9 @@ use crate::{Class, Input};
 pub const RANDOM_BAR: f64 = 2.0;
 pub const REGULAR_BAR: f64 = 1.2;
 
+/// What the proved check may take of the proved search's time, on the listing that the search wrote.
+pub const CHECK_BAR: f64 = 1.0;
+
 /// From this side on constant and periodic patterns have a bar.
 pub const LEAST_SIDE_WITH_BAR: usize = 16;
 

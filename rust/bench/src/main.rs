@@ -1,12 +1,13 @@
-//! The proved search beside a plain Rust program, in one run and on the same inputs. No time is asserted: what misses a bar is marked.
+//! The proved search beside a plain Rust program, and the proved check beside the search, in one run and on the same inputs. No time is
+//! asserted: what misses a bar is marked.
 //!
 //! `cargo run --release --offline -p bench`, after `rt staticlib exports` at the repository's top.
 
 mod inputs;
 mod plain;
 
-use colourway::{distinct_counts, strip_links, Buffers, SearchRefusal, Symbols, Totals};
-use inputs::{LEAST_SIDE_WITH_BAR, RANDOM_BAR, REGULAR_BAR};
+use colourway::{distinct_counts, strip_links, Buffers, Checked, SearchRefusal, Symbols, Totals};
+use inputs::{CHECK_BAR, LEAST_SIDE_WITH_BAR, RANDOM_BAR, REGULAR_BAR};
 use std::time::{Duration, Instant};
 
 /// A text and a pattern with their sides.
@@ -74,6 +75,20 @@ fn proved(input: &Input, lent: &mut Lent) -> Result<Totals, SearchRefusal> {
     )
 }
 
+/// The proved check of a listing, which it accepts.
+fn checked(input: &Input, listing: &[u8]) -> Checked {
+    colourway::check(
+        &input.text,
+        input.rows,
+        input.columns,
+        &input.pattern,
+        input.height,
+        input.width,
+        listing,
+    )
+    .expect("the listing is the search's")
+}
+
 /// The best times of a class.
 struct Times {
     plain: Duration,
@@ -82,6 +97,8 @@ struct Times {
     links: Duration,
     /// A proved search that has no room for the last byte of its listing, and so writes none.
     unlisted: Duration,
+    /// The proved check of the listing that the proved search wrote.
+    check: Duration,
     rounds: u32,
 }
 
@@ -93,8 +110,8 @@ fn time<T>(best: &mut Duration, run: impl FnOnce() -> T) {
     std::hint::black_box(answer);
 }
 
-/// Fails unless the two programs agree on the input: the answer and every buffer, with room for the listing and with one byte too few.
-/// The totals, and the proved search's buffers in both cases.
+/// Fails unless the two programs agree on the input: the answer and every buffer, with room for the listing and with one byte too few;
+/// and unless the check accepts the listing. The totals, and the proved search's buffers in both cases.
 fn compare(input: &Input) -> (Totals, Lent, Lent) {
     let Err(SearchRefusal::ListingBufferShort { needed }) = proved(input, &mut Lent::of(input, 0))
     else {
@@ -110,6 +127,11 @@ fn compare(input: &Input) -> (Totals, Lent, Lent) {
     });
     assert_eq!(short.0, Err(SearchRefusal::ListingBufferShort { needed }));
     let totals = full.0.expect("there is room for everything");
+    let by_check = checked(input, &full.1.listing);
+    assert_eq!(
+        (by_check.found, by_check.refused),
+        (totals.found, totals.refused)
+    );
     (totals, full.1, short.1)
 }
 
@@ -131,12 +153,14 @@ fn measure(input: &Input, mut full: Lent, mut short: Lent) -> Times {
     let mut by_plain = full.clone();
     let mut counts = full.counts.clone();
     let mut links = full.links.clone();
+    let listing = full.listing.clone();
     let mut times = Times {
         plain: Duration::MAX,
         proved: Duration::MAX,
         counts: Duration::MAX,
         links: Duration::MAX,
         unlisted: Duration::MAX,
+        check: Duration::MAX,
         rounds: 0,
     };
     let start = Instant::now();
@@ -174,6 +198,7 @@ fn measure(input: &Input, mut full: Lent, mut short: Lent) -> Times {
         time(&mut times.unlisted, || {
             proved(input, &mut short).expect_err("no room for the listing")
         });
+        time(&mut times.check, || checked(input, &listing));
         times.rounds += 1;
     }
     times
@@ -184,15 +209,19 @@ fn milliseconds(time: Duration) -> f64 {
     time.as_secs_f64() * 1e3
 }
 
-/// Prints a class's line, and answers whether it misses its bar.
+/// Whether a ratio misses its bar, and what is said of it.
+fn verdict(ratio: f64, bar: Option<f64>) -> (bool, String) {
+    match bar {
+        None => (false, String::from("no bar")),
+        Some(bar) if ratio > bar => (true, format!("MISSES {bar:.1}")),
+        Some(bar) => (false, format!("within {bar:.1}")),
+    }
+}
+
+/// Prints a class's line, and answers whether the search misses its bar.
 fn report(class: &Class, totals: Totals, times: &Times) -> bool {
     let ratio = times.proved.as_secs_f64() / times.plain.as_secs_f64();
-    let missed = class.bar.is_some_and(|bar| ratio > bar);
-    let verdict = match class.bar {
-        None => String::from("no bar"),
-        Some(bar) if missed => format!("MISSES {bar:.1}"),
-        Some(bar) => format!("within {bar:.1}"),
-    };
+    let (missed, verdict) = verdict(ratio, class.bar);
     let [plain, whole, counts, links, unlisted] = [
         times.plain,
         times.proved,
@@ -213,7 +242,19 @@ fn report(class: &Class, totals: Totals, times: &Times) -> bool {
     missed
 }
 
-/// Says what is measured, and how.
+/// Prints a class's line of the check, and answers whether the check misses its bar.
+fn report_check(class: &Class, length: usize, times: &Times) -> bool {
+    let ratio = times.check.as_secs_f64() / times.proved.as_secs_f64();
+    let (missed, verdict) = verdict(ratio, Some(CHECK_BAR));
+    let [search, check] = [times.proved, times.check].map(milliseconds);
+    println!(
+        "{:<42} {length:>8} {search:>9.3} {check:>9.3} {ratio:>6.2}  {verdict}",
+        class.name
+    );
+    missed
+}
+
+/// Says what is measured, and how, above the lines of the search.
 fn explain() {
     println!("The proved search and a plain Rust program on the same inputs, in turn, in one run: texts of 255 by 255 cells.");
     println!(
@@ -251,21 +292,43 @@ fn explain() {
     );
 }
 
+/// Says the same above the lines of the check.
+fn explain_check() {
+    println!();
+    println!("The proved check beside the proved search, in the same rounds: the listing that the search wrote, of so many bytes.");
+    println!("Bar for check / search: at most {CHECK_BAR:.1}");
+    println!();
+    println!(
+        "{:<42} {:>8} {:>9} {:>9} {:>6}  bar",
+        "class and pattern", "listing", "search", "check", "ratio"
+    );
+}
+
 fn main() {
     explain();
-    let mut classes = 0;
+    let mut measured = Vec::new();
     let mut misses = Vec::new();
     for class in inputs::classes() {
         let (totals, full, short) = compare(&class.input);
         let times = measure(&class.input, full, short);
-        classes += 1;
-        if report(&class, totals, &times) {
-            misses.push(class.name);
-        }
+        let missed = report(&class, totals, &times);
+        measured.push((class, totals, times, missed));
+    }
+    explain_check();
+    let classes = measured.len();
+    for (class, totals, times, search_missed) in measured {
+        let check_missed = report_check(&class, totals.length, &times);
+        let missed = match (search_missed, check_missed) {
+            (false, false) => continue,
+            (true, false) => "search",
+            (false, true) => "check",
+            (true, true) => "search and check",
+        };
+        misses.push(format!("{}: {missed}", class.name));
     }
     println!();
     println!("{} of {classes} classes miss their bar.", misses.len());
-    for name in misses {
-        println!("  {name}");
+    for miss in misses {
+        println!("  {miss}");
     }
 }

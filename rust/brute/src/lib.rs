@@ -5,11 +5,13 @@
 //! input is accepted) with the whole buffer as it is afterwards.
 
 mod bijections;
+mod check;
 mod compare;
 mod listing;
 mod search;
 
 pub use bijections::{compose, invert, pair, Columns};
+pub use check::check;
 pub use compare::one_window;
 pub use listing::read;
 pub use search::{search, Buffers};

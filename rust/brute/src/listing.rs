@@ -13,7 +13,7 @@ fn body_length(kind: u8) -> Option<usize> {
 }
 
 /// The whole record, kind and body, with which these bytes begin.
-fn first_record(bytes: &[u8]) -> Option<&[u8]> {
+pub(crate) fn first_record(bytes: &[u8]) -> Option<&[u8]> {
     let length = body_length(*bytes.first()?)?;
     bytes.get(..1 + length)
 }

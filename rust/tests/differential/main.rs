@@ -1,13 +1,16 @@
 //! The proved operations and the brute force on the same random inputs: the answer and every cell of the buffer are compared.
 
 mod bijections;
+mod check;
 mod compare;
 mod counts;
+mod damage;
 mod links;
 mod random;
 mod reader;
 mod search;
 mod symbols;
+mod texts;
 mod windows;
 
 use random::{Random, SEED};

@@ -1,7 +1,8 @@
 //! The reader of listings.
 
 use crate::random::Random;
-use crate::{assert_met, by_part, number, search, Operation, CASES};
+use crate::texts::{sides, TextAndPattern};
+use crate::{assert_met, by_part, number, Operation, CASES};
 use colourway::{read, read_into, records, ReadRefusal};
 
 #[derive(Debug)]
@@ -15,8 +16,14 @@ struct Input {
     next: usize,
 }
 
+/// A listing that a search wrote.
+fn written(random: &mut Random) -> Vec<u8> {
+    let sides = sides(random);
+    TextAndPattern::make(random, sides).listing()
+}
+
 /// Records of any kind with any numbers, one after the other.
-fn any_records(random: &mut Random) -> Vec<u8> {
+pub fn any_records(random: &mut Random) -> Vec<u8> {
     let mut listing = Vec::new();
     for _ in 0..random.between(0, 8) {
         let (kind, body) = random.choose(&[(1, 2), (2, 2), (3, 6), (4, 6), (5, 4)]);
@@ -26,12 +33,19 @@ fn any_records(random: &mut Random) -> Vec<u8> {
     listing
 }
 
+/// A few bytes, often small ones.
+pub fn any_bytes(random: &mut Random) -> Vec<u8> {
+    let length = random.between(0, 20);
+    let most = random.choose(&[5, 6, 255]);
+    (0..length).map(|_| random.between(0, most) as u8).collect()
+}
+
 /// A listing that a search wrote, the same damaged or cut, whole records of any numbers, or bytes.
 fn listing(random: &mut Random) -> (&'static str, Vec<u8>) {
     match random.below(5) {
-        0 => ("written", search::listing(random)),
+        0 => ("written", written(random)),
         1 => {
-            let mut listing = search::listing(random);
+            let mut listing = written(random);
             for _ in 0..random.between(1, 9) {
                 let place = random.below(listing.len());
                 let (any, near) = (random.byte(), random.below(7) as u8);
@@ -40,17 +54,12 @@ fn listing(random: &mut Random) -> (&'static str, Vec<u8>) {
             ("damaged", listing)
         }
         2 => {
-            let mut listing = search::listing(random);
+            let mut listing = written(random);
             listing.truncate(random.below(listing.len()));
             ("cut", listing)
         }
         3 => ("records", any_records(random)),
-        _ => {
-            let length = random.between(0, 20);
-            let most = random.choose(&[5, 6, 255]);
-            let bytes = (0..length).map(|_| random.between(0, most) as u8).collect();
-            ("bytes", bytes)
-        }
+        _ => ("bytes", any_bytes(random)),
     }
 }
 
@@ -158,7 +167,7 @@ fn reading_agrees() {
 }
 
 /// The records of a listing by their bytes, and at last the refusal if there is one.
-type Records = Vec<Result<Vec<u8>, (u8, usize)>>;
+pub type Records = Vec<Result<Vec<u8>, (u8, usize)>>;
 
 fn proved_records(listing: &[u8]) -> Records {
     // One more than there can be, so that a listing that never ends is seen and does not hang.
@@ -168,7 +177,7 @@ fn proved_records(listing: &[u8]) -> Records {
         .collect()
 }
 
-fn brute_records(listing: &[u8]) -> Records {
+pub fn brute_records(listing: &[u8]) -> Records {
     let mut found = Vec::new();
     let mut at = 0;
     loop {

@@ -15,7 +15,7 @@ use Rattle.theory.specs.Test.{pick}
 use Rattle.theory.specs.Store.{stored, storedRows, stored-none, stored-more, rows-more, rows-all, Covers}
 use Rattle.grid.specs.Shapes.{product-le}
 use Rattle.grid.specs.Windows.{rowCells, row-inside, length-row, row-at, window-strip}
-use Rattle.grid.specs.Strips.{link, linksNumber, linksAfter, links-passed, links-after, symbolsOf, StripOf, Latest, never, latest, LastPlaces, RowAt, Linkable, LinkedRow}
+use Rattle.grid.specs.Strips.{link, linksNumber, linksAfter, links-passed, links-after, stripSymbols, StripOf, Latest, never, latest, LastPlaces, RowAt, Linkable, LinkedRow}
 use Rattle.grid.specs.Strips.Links.{none, back, linked-is}
 use Rattle.grid.specs.declared.strips.Strip.{Strip}
 
@@ -93,7 +93,7 @@ module _ (text : List ℕ) (t : Strip) (strip : StripOf t (length text)) (i : �
   length-strip-row = rw is-row (length-row text (t .columns) i (t .left) (t .width) fits-row)
 
   -- row i of the text is row i of the strip
-  pub strip-row-at : RowAt (symbolsOf text t) (i * t .width) row
+  pub strip-row-at : RowAt (stripSymbols text t) (i * t .width) row
   strip-row-at j h =
       let j-lt : j < t .width = omega (arith, length-strip-row) in
       rw is-row (row-at text (t .columns) i (t .left) (t .width) j j-lt ∙ window-strip text (t .columns) i (t .left) (t .width) j (omega arith))
@@ -101,10 +101,10 @@ module _ (text : List ℕ) (t : Strip) (strip : StripOf t (length text)) (i : �
   row-ends : i * t .width + length row ≤ t .rows * t .width
   row-ends = omega (arith, length-strip-row, suc-mul i (t .width), mul-le-mul-right (t .width) inside)
 
-  pub linkable-row : (last : List ℕ) (room : ℕ) → LastPlaces (symbolsOf text t) (i * t .width) last → t .rows * t .width ≤ room → Linkable (i * t .width) row last room
+  pub linkable-row : (last : List ℕ) (room : ℕ) → LastPlaces (stripSymbols text t) (i * t .width) last → t .rows * t .width ≤ room → Linkable (i * t .width) row last room
   linkable-row last room l h =
       record {
-        symbols = symbolsOf text t;
+        symbols = stripSymbols text t;
         row-is = strip-row-at;
         places = l;
         small = omega (arith, row-ends, product-le (t .rows) (t .width) 255 255 (omega arith) (omega arith));
@@ -112,18 +112,18 @@ module _ (text : List ℕ) (t : Strip) (strip : StripOf t (length text)) (i : �
       }
 
   -- the last places before the next row, and the links of one row more
-  pub next-places : (links₀ last links : List ℕ) → LinkedRow (symbolsOf text t) (i * t .width) (length row) links₀ last links
-      → LastPlaces (symbolsOf text t) ((i + 1) * t .width) last
+  pub next-places : (links₀ last links : List ℕ) → LinkedRow (stripSymbols text t) (i * t .width) (length row) links₀ last links
+      → LastPlaces (stripSymbols text t) ((i + 1) * t .width) last
   next-places links₀ last links l =
-      subst (λ (p : ℕ). LastPlaces (symbolsOf text t) p last) (ap (λ (n : ℕ). i * t .width + n) length-strip-row ∙ sym (suc-mul i (t .width)) ∙ ap (λ (n : ℕ). n * t .width) (sym (add-one i))) (l .places)
+      subst (λ (p : ℕ). LastPlaces (stripSymbols text t) p last) (ap (λ (n : ℕ). i * t .width + n) length-strip-row ∙ sym (suc-mul i (t .width)) ∙ ap (λ (n : ℕ). n * t .width) (sym (add-one i))) (l .places)
 
-  pub next-links : (links links₀ last r : List ℕ) → links ≡ storedRows (link (symbolsOf text t)) (λ i j. i * t .width + j) i (t .width) links₀
-      → LinkedRow (symbolsOf text t) (i * t .width) (length row) links last r
-      → r ≡ storedRows (link (symbolsOf text t)) (λ i j. i * t .width + j) (i + 1) (t .width) links₀
+  pub next-links : (links links₀ last r : List ℕ) → links ≡ storedRows (link (stripSymbols text t)) (λ i j. i * t .width + j) i (t .width) links₀
+      → LinkedRow (stripSymbols text t) (i * t .width) (length row) links last r
+      → r ≡ storedRows (link (stripSymbols text t)) (λ i j. i * t .width + j) (i + 1) (t .width) links₀
   next-links links links₀ last r e l =
       rw (add-one i)
-      (rows-more (link (symbolsOf text t)) (λ i j. i * t .width + j) (t .width) i links₀ links r e
-      (l .written ∙ ap (λ (n : ℕ). stored (link (symbolsOf text t)) (λ j. i * t .width + j) n links) length-strip-row))
+      (rows-more (link (stripSymbols text t)) (λ i j. i * t .width + j) (t .width) i links₀ links r e
+      (l .written ∙ ap (λ (n : ℕ). stored (link (stripSymbols text t)) (λ j. i * t .width + j) n links) length-strip-row))
 
 -- every position lies in one row
 pub positions-covered : (rows width : ℕ) → 0 < width → Covers (λ i j. i * width + j) rows width (rows * width)
@@ -143,11 +143,11 @@ strip-of text t room z =
     (record { shape = p .0; inside = p .1 }, p .2)
 
 pub links-written : (text : List ℕ) (t : Strip) (links r : List ℕ) → linksNumber (length text) (t .rows) (t .columns) (t .width) (t .left) (length links) ≡ 0
-    → r ≡ storedRows (link (symbolsOf text t)) (λ i j. i * t .width + j) (t .rows) (t .width) links
+    → r ≡ storedRows (link (stripSymbols text t)) (λ i j. i * t .width + j) (t .rows) (t .width) links
     → r ≡ linksAfter text (t .rows) (t .columns) (t .width) (t .left) links
 links-written text t links r z e =
     let p = strip-of text t (length links) z in
     e
-    ∙ rows-all (link (symbolsOf text t)) (λ i j. i * t .width + j) (t .width) (t .rows) (t .rows * t .width) links
+    ∙ rows-all (link (stripSymbols text t)) (λ i j. i * t .width + j) (t .width) (t .rows) (t .rows * t .width) links
     (positions-covered (t .rows) (t .width) (p .0 .shape .sized .sides .width-good .positive)) (p .1)
     ∙ sym (links-after text (t .rows) (t .columns) (t .width) (t .left) links z)

@@ -9,14 +9,14 @@ use lib.ListN.{length, getD}
 use Rattle.theory.specs.Test.{pick}
 use Rattle.theory.specs.Table.{table, table-is}
 use Rattle.theory.specs.Store.{stored, stored-ext}
-use Rattle.theory.specs.Match.{answerOf}
+use Rattle.theory.specs.Match.{isMatch, answerOf}
 use Rattle.grid.specs.Windows.{windowAt, windowCells, stripAt, window-strip, cells-table, corner-row, corner-column}
 use Rattle.grid.specs.Distinct.{distinct}
 use Rattle.grid.specs.Strips.{link}
 use Rattle.grid.specs.Counts.{ShapeOf, across, down, countOf, window-count, place-lt}
 use Rattle.grid.specs.declared.counts.Shape.{Shape}
 use Rattle.matching.specs.Compare.{patternAt}
-use Rattle.search.specs.Flags.{Room, isMatch, answerAt, windowFlag, flagFrom, flag-at, flag-right, strip-part}
+use Rattle.search.specs.Flags.{Room, answerAt, windowFlag, flagFrom, flag-at, flag-right, strip-part}
 
 -- the flag of window k
 abbrev pub flagOf : List ℕ → List ℕ → Shape → ℕ → ℕ

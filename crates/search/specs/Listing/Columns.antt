@@ -5,13 +5,14 @@
 use mathlib.Core.Path.{_≡_, refl, sym, _∙_, ap}
 use mathlib.Core.Bool.{Bool, true, false, not, false≢true}
 use mathlib.Core.List.{List}
-use Prim.Native.Nat.{ℕ, zero, suc, _+_, _-_, _≤_, _<_}
+use Prim.Native.Nat.{ℕ, _+_, _-_, _≤_, _<_}
 use native.Mathlib.Omega.{arith}
 use lib.Dec.{eqb, ltb}
-use lib.ListN.{length, getD, set, replicate, length-set, length-replicate, getD-replicate}
+use lib.ListN.{length, getD, set, length-set, length-replicate, getD-replicate}
 use lib.Seq.{ext-getD, getD-set-same, getD-set-other}
 use borrow.Author.Tests.{eq-eqb, ne-eqb, lt-ltb, le-ltb, not-true}
 use Rattle.theory.specs.Test.{pick, Tested, holds, fails, eq-tested, lt-tested}
+use Rattle.theory.specs.Older.{Older, older-set}
 use Rattle.theory.specs.Table.{table, length-table, getD-table}
 use Rattle.theory.specs.Match.{ends}
 use Rattle.theory.specs.Match.Even.{even-if}
@@ -22,11 +23,6 @@ use Rattle.matching.specs.Compare.Scans.{Passed, passed-none, passed-long, test
 -- the image that an entry stands for, 256 for none
 abbrev pub imageFrom : ℕ → ℕ → ℕ
 imageFrom base x = pick (ltb x base) 256 (x - base)
-
--- a column of 256 entries, all of them below base
-pub record Older (base : ℕ) (l : List ℕ) : Type 0 where
-  pub long : length l ≡ 256
-  pub below : (i : ℕ) → getD l i 0 < base
 
 -- the column that a lent one stands for
 unfoldable pub imagesFrom : ℕ → List ℕ → List ℕ
@@ -71,26 +67,6 @@ images-set base l i v e h =
         getD-table (λ j. imageFrom base (getD (set l i (base + v)) j 0)) 256 j 0 k
         ∙ ap (imageFrom base) (getD-set-other l i j (base + v) 0 d)
         ∙ sym (getD-set-other (table (λ i. imageFrom base (getD l i 0)) 256) i j v 0 d ∙ getD-table (λ i. imageFrom base (getD l i 0)) 256 j 0 k)
-
--- a column of zeros is older than any base but 0
-zeros-at : (n i : ℕ) → _≡_ {A = ℕ} (getD (replicate n 0) i 0) 0
-zeros-at zero i = refl
-zeros-at (suc n) zero = refl
-zeros-at (suc n) (suc i) = zeros-at n i
-
-pub older-zeros : (base : ℕ) (l : List ℕ) → 0 < base → l ≡ replicate 256 0 → Older base l
-older-zeros base l h e = rw e (record { long = length-replicate {A = ℕ} 256 0; below = λ i. omega (arith, zeros-at 256 i) })
-
--- an entry of this window is older than the next one's base, and so is one of an earlier window
-pub older-next : (base : ℕ) (l : List ℕ) → Older base l → Older (base + 256) l
-older-next base l o = record { long = o .long; below = λ i. omega (arith, o .below i) }
-
-pub older-set : (base : ℕ) (l : List ℕ) (i x : ℕ) → Older base l → i < 256 → x < base → Older base (set l i x)
-older-set base l i x o k h = record { long = rw length-set (o .long); below = λ j. go j (eq-tested j i) }
-  where
-    go : (j : ℕ) {t : Bool} → Tested (j ≡ i) t → getD (set l i x) j 0 < base
-    go j (holds d) = rw d (omega (arith, getD-set-same l i x 0 (omega (arith, o .long))))
-    go j (fails d) = omega (arith, getD-set-other l i j x 0 d, o .below j)
 
 -- ---- the scan on lent columns
 

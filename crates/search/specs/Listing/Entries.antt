@@ -4,48 +4,30 @@
 use mathlib.Core.Path.{_≡_, refl, sym, _∙_, ap}
 use mathlib.Core.Bool.{Bool, true}
 use mathlib.Core.List.{List, [], _∷_}
-use Prim.Native.Nat.{ℕ, _+_, _/_, _%_, _<_}
+use Prim.Native.Nat.{ℕ, _/_, _%_, _<_}
 use native.Mathlib.Nat.{mod-lt, div-lt-iff-lt-mul}
 use native.Mathlib.Omega.{arith}
 use lib.Dec.{eqb}
-use lib.ListN.{length, getD, set, length-set}
-use lib.Seq.{getD-set-same, getD-set-other}
-use Rattle.theory.specs.Test.{pick, Tested, holds, fails, eq-tested, lt-tested, says-true}
+use lib.ListN.{length, getD}
+use Rattle.theory.specs.Test.{pick, Tested, holds, fails, lt-tested}
 use Rattle.theory.specs.Count.{members, members-ext, members-pass}
-use Rattle.theory.specs.Match.{Answer, matched, mismatched, answerOf, imageOf, firstEnd, earliest, mismatchEnding}
+use Rattle.theory.specs.Match.{Answer, matched, mismatched, isMatch, answerOf, imageOf, firstEnd, earliest, mismatchEnding}
 use Rattle.theory.specs.Match.Even.{Even, maps-even, even-carries, earliest-le}
 use Rattle.theory.specs.Match.Answers.{match-iff}
-use Rattle.grid.specs.Symbols.{has, symbolSet}
-use Rattle.grid.specs.Symbols.Patterns.{has-symbol-set}
+use Rattle.sets.specs.Symbols.{has, symbolSet, symbolsOf}
+use Rattle.sets.specs.Symbols.Patterns.{has-symbol-set}
 use Rattle.grid.specs.Distinct.{contains}
-use Rattle.grid.specs.Distinct.Sets.{contains-tested}
-use Rattle.grid.specs.declared.symbols.Symbols.{Symbols}
+use Rattle.sets.specs.declared.symbols.Symbols.{Symbols}
 use Rattle.matching.specs.Compare.{patternAt, windowOf, cellsOf, Placed}
 use Rattle.matching.specs.Compare.Scans.{answer-mismatch, answer-match}
+use Rattle.matching.specs.Places.{PlacesOf, symbol-stands}
+use Rattle.matching.specs.Windows.{Small}
 use Rattle.matching.specs.declared.compare.WindowPlace.{WindowPlace}
 use Rattle.listing.specs.Records.{bytesOf}
 use Rattle.listing.specs.Entries.{bytesAll, bytes-one, pairsOf, pairs-ext, entryOf, entry-found, entry-refused, spoiledAt, mismatchRecord}
 use Rattle.listing.specs.declared.records.Record.{Record}
 use Rattle.listing.specs.declared.records.Record.the-variants.{Found}
-use Rattle.search.specs.Flags.{isMatch}
-use Rattle.search.specs.Listing.{symbolsOf, entryAt}
-
--- each symbol of the first n positions of the pattern has a place, among them
-pub record PlacesTo (pattern : List ℕ) (n : ℕ) (places : List ℕ) : Type 0 where
-  pub long : length places ≡ 256
-  pub stands : (q : ℕ) → q < n → (getD places (getD pattern q 0) 0 < n) × (getD pattern (getD places (getD pattern q 0) 0) 0 ≡ getD pattern q 0)
-
--- each symbol of the pattern has
-abbrev pub PlacesOf : List ℕ → List ℕ → Type 0
-PlacesOf pattern places = PlacesTo pattern (length pattern) places
-
--- corner and sides of a window are bytes
-pub record Small (v : WindowPlace) : Type 0 where
-  pub row-small : v .row < 256
-  pub column-small : v .column < 256
-  pub height-small : v .height < 256
-  pub width-small : v .width < 256
-  pub some : 0 < v .width
+use Rattle.search.specs.Listing.{entryAt}
 
 -- the window's symbol at the place of each symbol
 abbrev pub imagesAt : List ℕ → WindowPlace → List ℕ → ℕ → ℕ
@@ -76,49 +58,14 @@ pub record Answered (text : List ℕ) (v : WindowPlace) (pattern : List ℕ) (fl
   pub symbols-are : symbols ≡ symbolSet pattern
   pub places-are : PlacesOf pattern places
 
--- ---- the places, position by position
-
-pub places-none : (pattern places : List ℕ) → length places ≡ 256 → PlacesTo pattern 0 places
-places-none pattern places e = record { long = e; stands = λ q h. absurd (below q h) }
-  where
-    below : (q : ℕ) → q < 0 → ⊥
-    below q h = omega arith
-
-pub places-more : (pattern places : List ℕ) (p a : ℕ) → a ≡ getD pattern p 0 → a < 256 → PlacesTo pattern p places → PlacesTo pattern (p + 1) (set places a p)
-places-more pattern places p a ea small h =
-    record {
-      long = rw length-set (h .long);
-      stands = λ q l. go q l (eq-tested (getD pattern q 0) a);
-    }
-  where
-    same : (q : ℕ) → getD pattern q 0 ≡ a → getD (set places a p) (getD pattern q 0) 0 ≡ p
-    same q e = rw e (getD-set-same places a p 0 (omega (arith, h .long)))
-
-    other : (q : ℕ) → (getD pattern q 0 ≡ a → ⊥) → getD (set places a p) (getD pattern q 0) 0 ≡ getD places (getD pattern q 0) 0
-    other q n = getD-set-other places a (getD pattern q 0) p 0 n
-
-    go : (q : ℕ) {t : Bool} → q < p + 1 → Tested (getD pattern q 0 ≡ a) t
-        → (getD (set places a p) (getD pattern q 0) 0 < p + 1) × (getD pattern (getD (set places a p) (getD pattern q 0) 0) 0 ≡ getD pattern q 0)
-    go q l (holds e) = (omega (arith, same q e), ap (λ (k : ℕ). getD pattern k 0) (same q e) ∙ sym ea ∙ sym e)
-    go q l (fails n) =
-        let not-p : q ≡ p → ⊥ = λ x. n (ap (λ (k : ℕ). getD pattern k 0) x ∙ sym ea) in
-        let o = h .stands q (omega arith) in
-        (omega (arith, other q n, o .0), ap (λ (k : ℕ). getD pattern k 0) (other q n) ∙ o .1)
-
 -- ---- a found window
 
 module _ (text : List ℕ) (v : WindowPlace) (pattern : List ℕ) where
-  -- a symbol of the pattern stands at its place
-  symbol-stands : (places : List ℕ) → PlacesOf pattern places → (a : ℕ) → contains pattern a ≡ true → (getD places a 0 < length pattern) × (getD pattern (getD places a 0) 0 ≡ a)
-  symbol-stands places h a t =
-      let e = says-true (contains-tested pattern a) t in
-      rw (← (e .2)) (h .stands (e .0) (e .1))
-
   pub standing : (symbols : Symbols) (places : List ℕ) → symbols ≡ symbolSet pattern → PlacesOf pattern places → length pattern ≡ cellsOf v → Standing symbols places v
   standing symbols places e h size =
       record {
         long = h .long;
-        inside = λ a l t. let s = symbol-stands places h a (sym (has-symbol-set pattern a l) ∙ ap (λ (x : Symbols). has x a) (sym e) ∙ t) in omega (arith, s .0);
+        inside = λ a l t. let s = symbol-stands pattern places h a (sym (has-symbol-set pattern a l) ∙ ap (λ (x : Symbols). has x a) (sym e) ∙ t) in omega (arith, s .0);
       }
 
   -- the records read at the places are those of the answer
@@ -142,7 +89,7 @@ module _ (text : List ℕ) (v : WindowPlace) (pattern : List ℕ) where
           → imagesAt text v places (getD (symbolsOf pattern) i 0) ≡ imageOf (patternAt pattern) (windowOf text v) (cellsOf v) (getD (symbolsOf pattern) i 0)
       same i l =
           let a = getD (symbolsOf pattern) i 0 in
-          let s = symbol-stands places h a (members-pass (contains pattern) 256 i l .1) in
+          let s = symbol-stands pattern places h a (members-pass (contains pattern) 256 i l .1) in
           sym
           (ap (imageOf (patternAt pattern) (windowOf text v) (cellsOf v)) (sym (s .1))
           ∙ even-carries (patternAt pattern) (windowOf text v) (cellsOf v) even (getD places a 0) (omega (arith, s .0)))

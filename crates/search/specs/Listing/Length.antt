@@ -11,13 +11,14 @@ use lib.ListN.{length, getD, length-append}
 use Rattle.theory.specs.Test.{pick}
 use Rattle.theory.specs.Join.{joined, joined-zero, joined-suc}
 use Rattle.theory.specs.Count.{count, length-members}
-use Rattle.theory.specs.Match.{Answer, matched, mismatched}
+use Rattle.theory.specs.Match.{Answer, matched, mismatched, isMatch}
+use Rattle.sets.specs.Symbols.{symbolsOf}
 use Rattle.grid.specs.Distinct.{contains, distinct}
 use Rattle.grid.specs.Distinct.Sets.{distinct-count}
 use Rattle.listing.specs.Entries.{entryOf, bytesAll, bytes-none, bytes-append, length-found, length-refused}
 use Rattle.listing.specs.declared.records.Record.the-variants.{Closing}
-use Rattle.search.specs.Flags.{isMatch, answerAt}
-use Rattle.search.specs.Listing.{symbolsOf, entryOfWindow, foundIn, refusedIn, searchRecords, searchListing, neededLength}
+use Rattle.search.specs.Flags.{answerAt}
+use Rattle.search.specs.Listing.{entryOfWindow, foundIn, refusedIn, searchRecords, searchListing, neededLength}
 
 -- a pattern of bytes has as many symbols as it has different ones
 pub length-symbols : (pattern : List ℕ) → ((k : ℕ) → getD pattern k 0 < 256) → length (symbolsOf pattern) ≡ distinct pattern

@@ -1,19 +1,14 @@
 -- The pairs of a found window, taken from the symbol set lowest first: the next pair, and that none is left where the set has no symbol.
 -- Assumes nothing.
-use mathlib.Core.Path.{_≡_, refl, sym, _∙_, ap}
-use mathlib.Core.Bool.{Bool, true, false}
+use mathlib.Core.Path.{_≡_, _∙_, ap}
 use mathlib.Core.List.{List, [], _++_}
 use Prim.Native.Nat.{ℕ, _+_, _≤_, _<_}
 use native.Mathlib.Omega.{arith}
-use lib.Dec.{eqb}
 use lib.ListN.{length, getD}
-use Rattle.theory.specs.Test.{pick, true-false}
-use Rattle.theory.specs.First.{first-spec}
 use Rattle.theory.specs.Count.{members}
-use Rattle.grid.specs.Symbols.{has, lowestOf, withoutSymbol}
-use Rattle.grid.specs.Symbols.Blocks.{has-set}
-use Rattle.grid.specs.Symbols.Taken.{members-lowest, members-over}
-use Rattle.grid.specs.declared.symbols.Symbols.{Symbols}
+use Rattle.sets.specs.Symbols.{has, lowestOf, withoutSymbol}
+use Rattle.sets.specs.Symbols.Taken.{members-lowest, members-over, lowest-has, without-has}
+use Rattle.sets.specs.declared.symbols.Symbols.{Symbols}
 use Rattle.matching.specs.Compare.{cellsOf}
 use Rattle.matching.specs.declared.compare.WindowPlace.{WindowPlace}
 use Rattle.listing.specs.Records.{bytesOf, written}
@@ -55,28 +50,11 @@ module _ (f : ℕ → ℕ) (s : Symbols) where
   unfolding pairBytes
   pairs-over a e h = ap (λ (xs : List ℕ). bytesAll (pairsOf f xs)) (members-over s (omega arith)) ∙ ap bytesAll (pairs-none f) ∙ bytes-none
 
--- one symbol less
-pub members-less : (s rest : Symbols) (a : ℕ) → rest ≡ withoutSymbol s a → a ≡ lowestOf s → a < 256 → length (members (has rest) 256) < length (members (has s) 256)
-members-less s rest a r e h = rw (r, e) (let m = ap length (members-lowest s (omega arith)) in omega arith)
-
 -- the symbol taken is in the set, and has its place
 pub lowest-stands : (s : Symbols) (places : List ℕ) (v : WindowPlace) (a : ℕ) → Standing s places v → a ≡ lowestOf s → a < 256
     → (a < length places) × (getD places a 0 < cellsOf v)
-lowest-stands s places v a h e l =
-    (omega (arith, h .long), h .inside a l (ap (has s) e ∙ first-spec (has s) 256 .hit (omega arith)))
+lowest-stands s places v a h e l = (omega (arith, h .long), h .inside a l (lowest-has s a e l))
 
 -- and so are those that are left
 pub standing-less : (s rest : Symbols) (places : List ℕ) (v : WindowPlace) (a : ℕ) → rest ≡ withoutSymbol s a → Standing s places v → Standing rest places v
-standing-less s rest places v a r h =
-    rw r
-    (record {
-      long = h .long;
-      inside = λ b l t. h .inside b l (was b (has-set (λ u. pick (eqb u a) false (has s u)) b l) t);
-    })
-  where
-    was : (b : ℕ) → has (withoutSymbol s a) b ≡ pick (eqb b a) false (has s b) → has (withoutSymbol s a) b ≡ true → has s b ≡ true
-    was b e t = go (eqb b a) (sym e ∙ t)
-      where
-        go : (c : Bool) → pick c false (has s b) ≡ true → has s b ≡ true
-        go true x = absurd (true-false x refl)
-        go false x = x
+standing-less s rest places v a r h = record { long = h .long; inside = λ b l t. h .inside b l (without-has s rest a b r l t) }

@@ -1,21 +1,21 @@
 -- The scan of a window on lent columns, row by row: where a row ends, and what all rows say of the window's first end.
 -- Assumes nothing.
-use mathlib.Core.Path.{_≡_, sym, _∙_, ap}
+use mathlib.Core.Path.{_≡_, sym, _∙_}
 use mathlib.Core.Bool.{Bool, true, false}
 use mathlib.Core.List.{List}
-use Prim.Native.Nat.{ℕ, _+_, _-_, _*_, _≤_, _<_}
-use native.Mathlib.Nat.{add-zero, add-assoc, add-sub-cancel-left, zero-mul, suc-mul, mul-le-mul-right}
-use native.Mathlib.Numerals.{add-one}
+use Prim.Native.Nat.{ℕ, _+_, _*_, _≤_, _<_}
+use native.Mathlib.Nat.{add-zero, add-assoc}
 use native.Mathlib.Omega.{arith}
-use lib.ListN.{length, getD, take, drop, length-take, length-drop}
-use lib.Seq.{getD-take, getD-drop}
+use lib.ListN.{length, getD, take, drop}
 use borrow.Author.Tests.{not-false}
 use Rattle.theory.specs.Match.{ends, firstEnd}
-use Rattle.grid.specs.Windows.{window-at, window-cell}
+use Rattle.grid.specs.Windows.{window-at}
 use Rattle.matching.specs.Compare.{patternAt, windowOf, cellsOf, Placed}
+use Rattle.matching.specs.Compare.Rows.{RowAt, row-first, rows-behind, row-below, cells-fit, length-row, row-pattern, row-window}
 use Rattle.matching.specs.Compare.Scans.{Passed, end-found, end-none}
 use Rattle.matching.specs.declared.compare.WindowPlace.{WindowPlace}
-use Rattle.search.specs.Listing.Columns.{imagesFrom, Older, older-next, lent-none, Meets, PairsUp}
+use Rattle.theory.specs.Older.{Older, older-next}
+use Rattle.search.specs.Listing.Columns.{imagesFrom, lent-none, Meets, PairsUp}
 
 -- ---- one row
 
@@ -100,26 +100,18 @@ module _ (base : ℕ) (row cells f₀ g₀ : List ℕ) where
 
 -- ---- all rows
 
--- the part of a list that the code lends, from a place to n further on
-pub part-is : (l : List ℕ) (a n : ℕ) → take (a + n - a) (drop a l) ≡ take n (drop a l)
-part-is l a n = ap (λ (k : ℕ). take k (drop a l)) (add-sub-cancel-left a n)
-
 -- i rows of the window are passed
 pub record PassedRows (text : List ℕ) (v : WindowPlace) (pattern : List ℕ) (base i start from : ℕ) (f g : List ℕ) : Type 0 where
-  pub within : i ≤ v .height
-  pub start-is : start ≡ (v .row + i) * v .columns + v .column
-  pub from-is : from ≡ i * v .width
+  pub place : RowAt v i start from
   pub forward-older : Older (base + 256) f
   pub backward-older : Older (base + 256) g
   pub passed : Passed (patternAt pattern) (windowOf text v) from (imagesFrom base f) (imagesFrom base g)
 
-module _ (text : List ℕ) (v : WindowPlace) (pattern : List ℕ) (base : ℕ) (placed : Placed text v) where
+module _ (text : List ℕ) (v : WindowPlace) (pattern : List ℕ) (base : ℕ) where
   pub rows-none : (start : ℕ) (f g : List ℕ) → start ≡ v .row * v .columns + v .column → Older base f → Older base g → PassedRows text v pattern base 0 start 0 f g
   rows-none start f g e of og =
       record {
-        within = omega arith;
-        start-is = rw add-zero e;
-        from-is = rw zero-mul;
+        place = row-first v start e;
         forward-older = older-next base f of;
         backward-older = older-next base g og;
         passed = lent-none (patternAt pattern) (windowOf text v) base f g of og;
@@ -127,74 +119,40 @@ module _ (text : List ℕ) (v : WindowPlace) (pattern : List ℕ) (base : ℕ) (
 
   pub rows-all : (i start from : ℕ) (f g : List ℕ) → v .height ≤ i → PassedRows text v pattern base i start from f g
       → from ≡ firstEnd (patternAt pattern) (windowOf text v) (cellsOf v)
-  rows-all i start from f g h here =
-      let all : i ≡ v .height = omega (arith, here .within) in
-      end-none (patternAt pattern) (windowOf text v) from (cellsOf v) (here .from-is ∙ ap (λ (x : ℕ). x * v .width) all) (here .passed .clear)
+  rows-all i start from f g h here = end-none (patternAt pattern) (windowOf text v) from (cellsOf v) (rows-behind v i start from h (here .place)) (here .passed .clear)
 
-  module _ (cells-are : length pattern ≡ cellsOf v) (i start from : ℕ) (f g : List ℕ) (inside : i < v .height)
-      (here : PassedRows text v pattern base i start from f g) where
-    one-more : (v .row + i + 1) * v .columns ≡ (v .row + i) * v .columns + v .columns
-    one-more = ap (λ (x : ℕ). x * v .columns) (add-one (v .row + i)) ∙ suc-mul (v .row + i) (v .columns)
+  module _ (placed : Placed text v) (cells-are : length pattern ≡ cellsOf v) (i start from : ℕ) (f g : List ℕ) (inside : i < v .height)
+      (here : PassedRows text v pattern base i start from f g) (row cells : List ℕ) (er : row ≡ take (v .width) (drop start text))
+      (ep : cells ≡ take (v .width) (drop from pattern)) (text-byte : (k : ℕ) → getD text k 0 < 256) (pattern-byte : (k : ℕ) → getD pattern k 0 < 256) where
+    row-wide : length row ≡ v .width
+    row-wide = length-row v i start from inside (here .place) text pattern placed cells-are row cells er ep
 
-    next-start : (v .row + i) * v .columns + v .column + v .columns ≡ (v .row + (i + 1)) * v .columns + v .column
-    next-start = rw (← add-assoc (v .row) i 1) (omega (arith, one-more))
+    meets-row : MeetsRow (patternAt pattern) (windowOf text v) base from row cells f g
+    meets-row =
+        record {
+          pattern-byte = pattern-byte;
+          window-byte = λ k. rw (window-at text (v .columns) (v .row) (v .column) (v .width) k) (text-byte _);
+          pattern-is = λ j h. row-pattern v i start from inside (here .place) text pattern placed cells-are row cells er ep j (omega (arith, row-wide));
+          window-is = λ j h. row-window v i start from inside (here .place) text pattern placed cells-are row cells er ep j (omega (arith, row-wide));
+          passed = here .passed;
+        }
 
-    next-from : (i + 1) * v .width ≡ i * v .width + v .width
-    next-from = ap (λ (x : ℕ). x * v .width) (add-one i) ∙ suc-mul i (v .width)
+    module _ (r : ℕ) (f′ g′ : List ℕ) (ended : EndsRow base row cells f g r f′ g′) where
+      -- one row more
+      pub rows-more : v .width ≤ r → PassedRows text v pattern base (i + 1) (start + v .columns) (from + v .width) f′ g′
+      rows-more h =
+          let all : r ≡ length row = omega (arith, ended .within, row-wide) in
+          let wide : r ≡ v .width = omega (arith, row-wide) in
+          record {
+            place = row-below v i start from inside (here .place);
+            forward-older = ended .forward-older;
+            backward-older = ended .backward-older;
+            passed = rw wide at (ended .passed (patternAt pattern) (windowOf text v) from meets-row all);
+          }
 
-    -- both rows are there
-    pub row-fits : start + v .width ≤ length text
-    row-fits =
-        let down : (v .row + i + 1) * v .columns ≤ (v .row + v .height) * v .columns = mul-le-mul-right (v .columns) (omega arith) in
-        omega (arith, one-more, here .start-is, placed .across, placed .down)
-
-    pub cells-fit : from + v .width ≤ length pattern
-    cells-fit =
-        let down : (i + 1) * v .width ≤ v .height * v .width = mul-le-mul-right (v .width) (omega arith) in
-        omega (arith, next-from, here .from-is)
-
-    module _ (row cells : List ℕ) (er : row ≡ take (v .width) (drop start text)) (ep : cells ≡ take (v .width) (drop from pattern)) where
-      length-of-row : length row ≡ v .width
-      length-of-row = rw (er, length-take, length-drop) (omega (arith, row-fits))
-
-      -- they are as long as each other
-      pub same-length : length cells ≡ length row
-      same-length = rw (ep, length-take, length-drop) (omega (arith, cells-fit, length-of-row))
-
-      module _ (text-byte : (k : ℕ) → getD text k 0 < 256) (pattern-byte : (k : ℕ) → getD pattern k 0 < 256) where
-        meets-row : MeetsRow (patternAt pattern) (windowOf text v) base from row cells f g
-        meets-row =
-            record {
-              pattern-byte = pattern-byte;
-              window-byte = λ k. rw (window-at text (v .columns) (v .row) (v .column) (v .width) k) (text-byte _);
-              pattern-is = λ j h.
-                  let k : j < v .width = omega (arith, length-of-row) in
-                  rw (ep, getD-take (v .width) (drop from pattern) j 0 k) (getD-drop from pattern j 0);
-              window-is = λ j h.
-                  let k : j < v .width = omega (arith, length-of-row) in
-                  rw (er, getD-take (v .width) (drop start text) j 0 k, here .from-is, window-cell text (v .columns) (v .row) (v .column) (v .width) i j k, ← here .start-is)
-                  (getD-drop start text j 0);
-              passed = here .passed;
-            }
-
-        module _ (r : ℕ) (f′ g′ : List ℕ) (ended : EndsRow base row cells f g r f′ g′) where
-          -- one row more
-          pub rows-more : v .width ≤ r → PassedRows text v pattern base (i + 1) (start + v .columns) (from + v .width) f′ g′
-          rows-more h =
-              let all : r ≡ length row = omega (arith, ended .within, length-of-row) in
-              let wide : r ≡ v .width = omega (arith, length-of-row) in
-              record {
-                within = omega arith;
-                start-is = ap (λ (x : ℕ). x + v .columns) (here .start-is) ∙ next-start;
-                from-is = rw (here .from-is) (sym next-from);
-                forward-older = ended .forward-older;
-                backward-older = ended .backward-older;
-                passed = rw wide at (ended .passed (patternAt pattern) (windowOf text v) from meets-row all);
-              }
-
-          -- the way out in a row
-          pub rows-found : r < v .width → from + r ≡ firstEnd (patternAt pattern) (windowOf text v) (cellsOf v)
-          rows-found h =
-              end-found (patternAt pattern) (windowOf text v) (from + r) (cellsOf v) (omega (arith, cells-fit))
-              (ended .clear (patternAt pattern) (windowOf text v) from meets-row)
-              (ended .hit (patternAt pattern) (windowOf text v) from meets-row (omega (arith, length-of-row)))
+      -- the way out in a row
+      pub rows-found : r < v .width → from + r ≡ firstEnd (patternAt pattern) (windowOf text v) (cellsOf v)
+      rows-found h =
+          end-found (patternAt pattern) (windowOf text v) (from + r) (cellsOf v) (omega (arith, cells-fit v i start from inside (here .place) text pattern placed cells-are))
+          (ended .clear (patternAt pattern) (windowOf text v) from meets-row)
+          (ended .hit (patternAt pattern) (windowOf text v) from meets-row (omega (arith, row-wide)))

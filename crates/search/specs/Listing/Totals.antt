@@ -11,10 +11,11 @@ use lib.ListN.{getD}
 use borrow.Author.Tests.{eq-eqb, ne-eqb}
 use Rattle.theory.specs.Test.{pick}
 use Rattle.theory.specs.Count.{count, count-ext, count-le, count-not}
+use Rattle.theory.specs.Match.{isMatch}
 use Rattle.grid.specs.Shapes.{windows}
 use Rattle.grid.specs.Counts.{across, down}
 use Rattle.grid.specs.declared.counts.Shape.{Shape}
-use Rattle.search.specs.Flags.{windowFlag, isMatch, answerAt}
+use Rattle.search.specs.Flags.{windowFlag, answerAt}
 use Rattle.search.specs.Flags.Strips.{flagOf}
 use Rattle.search.specs.Listing.{foundIn, refusedIn}
 

@@ -5,7 +5,7 @@ use mathlib.Core.List.{List, _++_}
 use Prim.Native.Nat.{ℕ, _+_, _≤_}
 use native.Mathlib.Nat.{zero-add}
 use native.Mathlib.Omega.{arith}
-use lib.ListN.{length, length-replicate, replicate}
+use lib.ListN.{length}
 use Rattle.theory.specs.Join.{joined}
 use Rattle.grid.specs.Shapes.{windows, product-le}
 use Rattle.grid.specs.Refusals.{bufferAfter}
@@ -27,10 +27,6 @@ pub pattern-fits : (text pattern : List ℕ) (s : Shape) (flags : List ℕ) → 
 pattern-fits text pattern s flags f =
     let v = f .shape in
     omega (arith, f .size, product-le (s .height) (s .width) 255 255 (omega arith) (omega arith))
-
--- a column that was not used
-pub zeros-long : (l : List ℕ) → l ≡ replicate 256 0 → length l ≡ 256
-zeros-long l e = ap length e ∙ length-replicate {A = ℕ} 256 0
 
 module _ (text pattern : List ℕ) (s : Shape) (found refused : ℕ)
     (f : found ≡ foundIn text (s .rows) (s .columns) pattern (s .height) (s .width))

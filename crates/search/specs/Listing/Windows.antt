@@ -1,31 +1,29 @@
 -- The listing window by window: what the writing of every window needs, and how the records of all windows come about.
 -- Assumes nothing.
-use mathlib.Core.Path.{_≡_, refl, sym, _∙_, ap, ap₂, subst}
+use mathlib.Core.Path.{_≡_, refl, sym, _∙_, ap, subst}
 use mathlib.Core.Bool.{Bool}
 use mathlib.Core.List.{List, [], _++_}
-use Prim.Native.Nat.{ℕ, zero, suc, _+_, _*_, _/_, _%_, _≤_, _<_}
-use native.Mathlib.Nat.{mod-lt, div-lt-iff-lt-mul, div-eq-of-lt, mod-eq-of-lt, mul-le-mul-right}
+use Prim.Native.Nat.{ℕ, zero, suc, _+_, _*_, _≤_, _<_}
 use native.Mathlib.Numerals.{add-one}
 use native.Mathlib.Omega.{arith}
 use lib.ListN.{length, getD, length-append}
 use Rattle.theory.specs.Test.{Tested, holds, fails, le-tested}
 use Rattle.theory.specs.Join.{joined, joined-zero, joined-suc}
-use Rattle.grid.specs.Shapes.{corners, product-le}
-use Rattle.grid.specs.Symbols.{symbolSet}
+use Rattle.sets.specs.Symbols.{symbolSet}
 use Rattle.grid.specs.Counts.{ShapeOf, across, down}
 use Rattle.grid.specs.declared.counts.Shape.{Shape}
-use Rattle.grid.specs.declared.symbols.Symbols.{Symbols}
-use Rattle.matching.specs.Compare.{Placed}
+use Rattle.sets.specs.declared.symbols.Symbols.{Symbols}
+use Rattle.matching.specs.Places.{PlacesOf}
+use Rattle.matching.specs.Windows.{windowPlace, placed-window, small-window}
+use Rattle.matching.specs.declared.compare.WindowPlace.{WindowPlace}
 use Rattle.listing.specs.Records.{written}
 use Rattle.listing.specs.Writing.{length-written}
 use Rattle.listing.specs.Pieces.{written-none, both-written}
 use Rattle.listing.specs.Entries.{bytesAll, bytes-none, bytes-append}
 use Rattle.search.specs.Flags.{windowFlag}
 use Rattle.search.specs.Flags.Strips.{flagOf}
-use Rattle.matching.specs.Compare.Walks.{next-div, next-mod, below-div, below-mod}
-use Rattle.matching.specs.declared.compare.WindowPlace.{WindowPlace}
-use Rattle.search.specs.Listing.{windowPlace, entryAt, entryOfWindow}
-use Rattle.search.specs.Listing.Entries.{PlacesOf, Small, Answered}
+use Rattle.search.specs.Listing.{entryAt, entryOfWindow}
+use Rattle.search.specs.Listing.Entries.{Answered}
 
 -- sides that were not refused, and the flag of every window
 pub record Flagged (text pattern : List ℕ) (s : Shape) (flags : List ℕ) : Type 0 where
@@ -39,101 +37,16 @@ pub record SymbolPlaces (pattern : List ℕ) (symbols : Symbols) (places : List 
   pub symbols-are : symbols ≡ symbolSet pattern
   pub places-are : PlacesOf pattern places
 
--- ---- from window to window
-
-place-is : (columns height width k row column : ℕ) → row ≡ k / corners columns width → column ≡ k % corners columns width
-    → record { columns = columns; row = row; column = column; height = height; width = width } ≡ windowPlace columns height width k
-place-is columns height width k row column e d =
-    ap₂ (λ (r c : ℕ). record { columns = columns; row = r; column = c; height = height; width = width }) e d
-
-module _ (v : WindowPlace) (k : ℕ) (is : v ≡ windowPlace (v .columns) (v .height) (v .width) k) where
-  row-is : v .row ≡ k / corners (v .columns) (v .width)
-  row-is = ap (λ (x : WindowPlace). x .row) is
-
-  column-is : v .column ≡ k % corners (v .columns) (v .width)
-  column-is = ap (λ (x : WindowPlace). x .column) is
-
-  -- the next one in the row
-  pub window-on : v .column + 1 < corners (v .columns) (v .width)
-      → record { columns = v .columns; row = v .row; column = v .column + 1; height = v .height; width = v .width }
-      ≡ windowPlace (v .columns) (v .height) (v .width) (k + 1)
-  window-on h =
-      let l : k % corners (v .columns) (v .width) + 1 < corners (v .columns) (v .width) = omega (arith, column-is) in
-      place-is (v .columns) (v .height) (v .width) (k + 1) (v .row) (v .column + 1)
-      (row-is ∙ sym (next-div (corners (v .columns) (v .width)) k l))
-      (ap (λ (x : ℕ). x + 1) column-is ∙ sym (next-mod (corners (v .columns) (v .width)) k l))
-
-  -- the first one of the row below
-  pub window-below : 0 < corners (v .columns) (v .width) → corners (v .columns) (v .width) ≤ v .column + 1
-      → record { columns = v .columns; row = v .row + 1; column = 0; height = v .height; width = v .width }
-      ≡ windowPlace (v .columns) (v .height) (v .width) (k + 1)
-  window-below pos h =
-      let l : corners (v .columns) (v .width) ≤ k % corners (v .columns) (v .width) + 1 = omega (arith, column-is) in
-      place-is (v .columns) (v .height) (v .width) (k + 1) (v .row + 1) 0
-      (ap (λ (x : ℕ). x + 1) row-is ∙ sym (below-div (corners (v .columns) (v .width)) k pos l))
-      (sym (below-mod (corners (v .columns) (v .width)) k pos l))
-
--- the first window
-pub window-first : (columns height width : ℕ) → 0 < corners columns width
-    → record { columns = columns; row = 0; column = 0; height = height; width = width } ≡ windowPlace columns height width 0
-window-first columns height width pos = place-is columns height width 0 0 0 (sym (div-eq-of-lt pos)) (sym (mod-eq-of-lt pos))
-
--- the step, where the sides are known by other names
-pub window-next : (columns height width k : ℕ) (v r : WindowPlace) → v ≡ windowPlace columns height width k
-    → ((j : ℕ) → v ≡ windowPlace (v .columns) (v .height) (v .width) j → r ≡ windowPlace (v .columns) (v .height) (v .width) (j + 1))
-    → r ≡ windowPlace columns height width (k + 1)
-window-next columns height width k v r e f =
-    subst
-    (λ (u : WindowPlace). ((j : ℕ) → u ≡ windowPlace (u .columns) (u .height) (u .width) j → r ≡ windowPlace (u .columns) (u .height) (u .width) (j + 1)) → r ≡ windowPlace columns height width (k + 1))
-    (sym e) (λ g. g k refl) f
-
 -- ---- window k lies in the text, and its flag says its answer
 
 module _ (text pattern : List ℕ) (s : Shape) (flags : List ℕ) (symbols : Symbols) (places : List ℕ) (f : Flagged text pattern s flags) (g : SymbolPlaces pattern symbols places)
     (k : ℕ) (h : k < down s * across s) where
-  shape : ShapeOf s (length text)
-  shape = f .shape
-
-  some : 0 < across s
-  some = let v = shape in omega arith
-
-  row-lt : k / across s < down s
-  row-lt = div-lt-iff-lt-mul some .1 h
-
-  column-lt : k % across s < across s
-  column-lt = mod-lt k some
-
-  placed : Placed text (windowPlace (s .columns) (s .height) (s .width) k)
-  placed =
-      let v = shape in
-      record {
-        some = omega arith;
-        tall = omega arith;
-        down = omega (arith, v .cells-is, mul-le-mul-right (s .columns) rows-le);
-        across = omega (arith, column-lt);
-        small = omega (arith, v .cells-is, product-le (s .rows) (s .columns) 255 255 (omega arith) (omega arith));
-      }
-    where
-      rows-le : k / across s + s .height ≤ s .rows
-      rows-le = let v = shape in omega (arith, row-lt)
-
-  small : Small (windowPlace (s .columns) (s .height) (s .width) k)
-  small =
-      let v = shape in
-      record {
-        row-small = omega (arith, row-lt);
-        column-small = omega (arith, column-lt);
-        height-small = omega arith;
-        width-small = omega arith;
-        some = omega arith;
-      }
-
   answered-here : Answered text (windowPlace (s .columns) (s .height) (s .width) k) pattern (getD flags k 0) symbols places
   unfolding windowFlag
   answered-here =
       record {
-        placed = placed;
-        small = small;
+        placed = placed-window text s (f .shape) k h;
+        small = small-window text s (f .shape) k h;
         size = f .size;
         flag-is = f .flags-are k h;
         symbols-are = g .symbols-are;
@@ -142,17 +55,6 @@ module _ (text pattern : List ℕ) (s : Shape) (flags : List ℕ) (symbols : Sym
 
   pub answered : (v : WindowPlace) → v ≡ windowPlace (s .columns) (s .height) (s .width) k → Answered text v pattern (getD flags k 0) symbols places
   answered v e = subst (λ (u : WindowPlace). Answered text u pattern (getD flags k 0) symbols places) (sym e) answered-here
-
-  -- what the step to the next one asks
-  pub step-asks : (v : WindowPlace) → v ≡ windowPlace (s .columns) (s .height) (s .width) k
-      → (across s ≡ corners (v .columns) (v .width)) × (0 < across s) × (v .column < across s) × (v .row < 65025)
-  step-asks v e =
-      let u = shape in (
-        rw e,
-        some,
-        omega (arith, ap (λ (x : WindowPlace). x .column) e, column-lt),
-        omega (arith, ap (λ (x : WindowPlace). x .row) e, row-lt),
-      )
 
 -- ---- the listing so far
 

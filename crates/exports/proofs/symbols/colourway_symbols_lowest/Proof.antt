@@ -1,7 +1,7 @@
 -- `lowest` answers it of the set that the words hold.
 -- Assumes nothing.
 use mathlib.Core.Path.{_∙_, ap}
-use Rattle.grid.specs.Symbols.{lowestOf}
+use Rattle.sets.specs.Symbols.{lowestOf}
 use borrow.Author.Needs.{needs}
 use Rattle.exports.proofs.symbols.colourway_symbols_lowest.Statement.{statement}
 use Rattle.exports.proofs.symbols.colourway_symbols_lowest.Tie as tie

@@ -1,7 +1,7 @@
 -- `size` answers it of the set that the words hold.
 -- Assumes nothing.
 use mathlib.Core.Path.{_∙_, ap}
-use Rattle.grid.specs.Symbols.{sizeOf}
+use Rattle.sets.specs.Symbols.{sizeOf}
 use borrow.Author.Needs.{needs}
 use Rattle.exports.proofs.symbols.colourway_symbols_size.Statement.{statement}
 use Rattle.exports.proofs.symbols.colourway_symbols_size.Tie as tie

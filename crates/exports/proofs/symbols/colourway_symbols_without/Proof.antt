@@ -1,8 +1,8 @@
 -- The words are those of the set that `without` makes of the set that the words held.
 -- Assumes nothing.
 use mathlib.Core.Path.{_∙_, ap}
-use Rattle.grid.specs.Symbols.{withoutSymbol}
-use Rattle.grid.specs.declared.symbols.Symbols.{Symbols}
+use Rattle.sets.specs.Symbols.{withoutSymbol}
+use Rattle.sets.specs.declared.symbols.Symbols.{Symbols}
 use Rattle.exports.specs.Symbols.{wordsOf}
 use borrow.Author.Needs.{needs}
 use Rattle.exports.proofs.symbols.colourway_symbols_without.Statement.{statement}

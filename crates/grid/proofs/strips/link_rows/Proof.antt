@@ -8,15 +8,15 @@ use lib.ListN.{length}
 use denote.Ref.{now}
 use Rattle.theory.specs.Store.{storedRows, rows-none, length-rows}
 use Rattle.grid.specs.Shapes.{product-le}
-use Rattle.grid.specs.Strips.{link, symbolsOf, LastPlaces, LinkedRow}
+use Rattle.grid.specs.Strips.{link, stripSymbols, LastPlaces, LinkedRow}
 use Rattle.grid.specs.Strips.Rows.{strip-row-at, linkable-row, next-places, next-links}
 use Rattle.grid.proofs.strips.link_rows.Statement.{statement}
 use Rattle.grid.proofs.strips.link_rows.Tie as tie
 
 abbrev Inv-loop : tie.InvT-loop
 Inv-loop text t links₀ rows last₀ i₀ links last i =
-    (i ≤ rows) × LastPlaces (symbolsOf text t) (i * t .width) last ×
-    (links ≡ storedRows (link (symbolsOf text t)) (λ i j. i * t .width + j) i (t .width) links₀)
+    (i ≤ rows) × LastPlaces (stripSymbols text t) (i * t .width) last ×
+    (links ≡ storedRows (link (stripSymbols text t)) (λ i j. i * t .width + j) i (t .width) links₀)
 
 abbrev μ-loop : tie.MeasureT-loop
 μ-loop text t links₀ rows last₀ i₀ links last i = rows - i
@@ -29,7 +29,7 @@ row-start c = product-le _ _ 255 255 (omega arith) (omega arith)
 
 -- what the row's links and last places are, of the strip's own sequence
 linked : (c : tie.After-link-row Inv-loop μ-loop) → let a = c .before .before .before .before .before .before .before .before .before .before .before .before .before .args in
-    LinkedRow (symbolsOf (now (a .text)) (a .t)) (c .before .before .before .before .before .before .before .before .before .loop .i * a .t .width) (length (now (c .before .before .before .before .row-cells .result)))
+    LinkedRow (stripSymbols (now (a .text)) (a .t)) (c .before .before .before .before .before .before .before .before .before .loop .i * a .t .width) (length (now (c .before .before .before .before .row-cells .result)))
     (c .before .before .before .before .before .before .before .before .before .loop .links) (c .link-row .last .1 .1 .0) (c .link-row .last .1 .1 .1 .0)
 linked c = c .link-row .ensures _ (strip-row-at _ _ (c .before .before .before .before .before .before .before .before .before .before .before .before .before .pre .0) _ (c .before .before .before .before .before .before .before .before .loop-test .taken) _ (c .before .before .before .before .row-cells .ensures)) (c .before .before .before .before .before .before .before .before .before .loop .inv .1)
 

@@ -6,8 +6,9 @@ use Prim.Native.Nat.{ℕ, _+_, _-_, _≤_, _<_}
 use native.Mathlib.Omega.{arith}
 use lib.ListN.{length, getD, take, drop}
 use denote.Ref.{now}
+use Rattle.matching.specs.Compare.Rows.{part-is, row-fits, cells-fit, same-length}
 use Rattle.matching.specs.Compare.Walks.{cells-small, walkable}
-use Rattle.search.specs.Listing.Rows.{PassedRows, rows-none, rows-all, row-fits, cells-fit, part-is, same-length, rows-more, rows-found}
+use Rattle.search.specs.Listing.Rows.{PassedRows, rows-none, rows-all, rows-more, rows-found}
 use Rattle.search.proofs.ends.first_end.Statement.{statement}
 use Rattle.search.proofs.ends.first_end.Tie as tie
 
@@ -23,7 +24,7 @@ entry c = c .before .before .before .before .before .before
 
 -- the rows that are lent lie in the text and in the pattern, and their places are small
 row-in : (c : tie.In-loop Inv-loop μ-loop) → c .before .loop .start + entry c .args .v .width ≤ length (now (entry c .args .text))
-row-in c = row-fits _ _ _ _ (entry c .pre .0) (entry c .pre .1) _ _ _ _ _ (c .loop-test .taken) (c .before .loop .inv)
+row-in c = row-fits _ _ _ _ (c .loop-test .taken) (c .before .loop .inv .place) _ (now (entry c .args .pattern)) (entry c .pre .0) (entry c .pre .1)
 
 row-small : (c : tie.In-loop Inv-loop μ-loop) → c .before .loop .start + entry c .args .v .width ≤ 65025
 row-small c = omega (arith, row-in c, entry c .pre .0 .small)
@@ -32,7 +33,7 @@ below-small : (c : tie.In-loop Inv-loop μ-loop) → c .before .loop .start + en
 below-small c = omega (arith, row-small c, walkable _ _ (entry c .pre .0) .start-small)
 
 cells-in : (c : tie.In-loop Inv-loop μ-loop) → c .before .loop .from + entry c .args .v .width ≤ length (now (entry c .args .pattern))
-cells-in c = cells-fit _ _ _ _ (entry c .pre .0) (entry c .pre .1) _ _ _ _ _ (c .loop-test .taken) (c .before .loop .inv)
+cells-in c = cells-fit _ _ _ _ (c .loop-test .taken) (c .before .loop .inv .place) (now (entry c .args .text)) (now (entry c .args .pattern)) (entry c .pre .0) (entry c .pre .1)
 
 cells-few : (c : tie.In-loop Inv-loop μ-loop) → c .before .loop .from + entry c .args .v .width ≤ 65025
 cells-few c = omega (arith, cells-in c, entry c .pre .1, cells-small _ _ (entry c .pre .0))
@@ -61,7 +62,7 @@ add-start : tie.Need-add-start Inv-loop μ-loop
 add-start c = let o = c .before .before .before .before in omega (arith, walkable _ _ (o .pre .0) .start-small, o .pre .0 .across)
 
 loop-holds : tie.Need-loop-holds Inv-loop μ-loop
-loop-holds c = let o = c .before .before .before .before in rows-none _ _ _ _ (o .pre .0) _ _ _ refl (o .pre .3) (o .pre .4)
+loop-holds c = let o = c .before .before .before .before in rows-none _ _ _ _ _ _ _ refl (o .pre .3) (o .pre .4)
 
 add-row : tie.Need-add-row Inv-loop μ-loop
 add-row c = omega (arith, row-small (c .before))
@@ -92,7 +93,7 @@ row-end-requires c κs =
     let i = c .before .before .before .before .before .before in
     let o = entry i in
     let l = i .before .loop .inv in (
-      same-length _ _ _ _ (o .pre .0) (o .pre .1) _ _ _ _ _ (i .loop-test .taken) l _ _ (row-is i) (cells-is i),
+      same-length _ _ _ _ (i .loop-test .taken) (l .place) _ _ (o .pre .0) (o .pre .1) _ _ (row-is i) (cells-is i),
       l .forward-older,
       l .backward-older,
       o .pre .2,
@@ -133,7 +134,7 @@ loop-again c =
 returns-2 : tie.Need-returns-2 Inv-loop μ-loop
 returns-2 c =
     let i = c .before .loop .inv in
-    (rows-all _ _ _ _ (c .before .before .before .before .before .before .pre .0) _ _ _ _ _ (c .loop-test .left) i, (i .forward-older, i .backward-older))
+    (rows-all _ _ _ _ _ _ _ _ _ (c .loop-test .left) i, (i .forward-older, i .backward-older))
 
 pub first-end-spec : {M : Type 1} → statement M
 first-end-spec =

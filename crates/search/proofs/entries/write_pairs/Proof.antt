@@ -7,13 +7,14 @@ use lib.ListN.{length, getD}
 use borrow.Author.Needs.{needs}
 use denote.Ref.{now}
 use Rattle.theory.specs.Count.{members}
-use Rattle.grid.specs.Symbols.{has, lowestOf}
+use Rattle.sets.specs.Symbols.{has, lowestOf}
+use Rattle.sets.specs.Symbols.Taken.{members-less}
 use Rattle.matching.specs.Compare.{cellsOf}
 use Rattle.listing.specs.Records.{written}
 use Rattle.listing.specs.Writing.{length-written}
 use Rattle.listing.specs.Pieces.{Left, left-all, left-long, left-none}
 use Rattle.search.specs.Listing.Entries.{Standing, imagesAt}
-use Rattle.search.specs.Listing.Pairs.{pairBytes, pair-room, pair-less, pairs-over, members-less, lowest-stands, standing-less}
+use Rattle.search.specs.Listing.Pairs.{pairBytes, pair-room, pair-less, pairs-over, lowest-stands, standing-less}
 use Rattle.search.proofs.entries.write_pairs.Statement.{statement}
 use Rattle.search.proofs.entries.write_pairs.Tie as tie
 

@@ -11,7 +11,7 @@ use Rattle.listing.specs.Records.{written}
 use Rattle.listing.specs.Entries.{bytesAll}
 use Rattle.listing.specs.declared.records.Record.{Record}
 use Rattle.search.specs.Listing.{entryAt}
-use Rattle.search.specs.Listing.Columns.{older-next}
+use Rattle.theory.specs.Older.{older-next}
 use Rattle.search.specs.Listing.Entries.{foundRecords, standing, found-records, flag-matched, flag-unmatched}
 use Rattle.search.proofs.entries.write_window.Statement.{statement}
 use Rattle.search.proofs.entries.write_window.Tie as tie

@@ -5,8 +5,8 @@ use mathlib.Core.Path.{_≡_, _∙_, ap}
 use native.Mathlib.Omega.{arith}
 use borrow.Author.Needs.{needs}
 use denote.Ref.{now}
-use Rattle.grid.specs.Symbols.{sizeOf}
-use Rattle.grid.specs.Symbols.Patterns.{size-distinct}
+use Rattle.sets.specs.Symbols.{sizeOf}
+use Rattle.sets.specs.Symbols.Patterns.{size-distinct}
 use Rattle.grid.specs.Distinct.{distinct, distinct-le}
 use Rattle.search.proofs.flags.pattern_size.Statement.{statement}
 use Rattle.search.proofs.flags.pattern_size.Tie as tie

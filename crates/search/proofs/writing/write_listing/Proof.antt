@@ -3,8 +3,8 @@
 use native.Mathlib.Omega.{arith}
 use borrow.Author.Needs.{needs}
 use denote.Ref.{now}
-use Rattle.search.specs.Listing.Columns.{older-zeros}
-use Rattle.search.specs.Listing.Whole.{pattern-fits, zeros-long, windows-room, closing-room, listing-whole}
+use Rattle.theory.specs.Older.{older-zeros, zeros-long}
+use Rattle.search.specs.Listing.Whole.{pattern-fits, windows-room, closing-room, listing-whole}
 use Rattle.search.proofs.writing.write_listing.Statement.{statement}
 use Rattle.search.proofs.writing.write_listing.Tie as tie
 

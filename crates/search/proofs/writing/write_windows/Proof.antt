@@ -4,11 +4,12 @@
 use mathlib.Core.Path.{_≡_, refl}
 use native.Mathlib.Omega.{arith}
 use Prim.Native.Nat.{_+_, _-_, _*_, _≤_}
+use lib.ListN.{length}
 use denote.Ref.{now}
 use Rattle.grid.specs.Counts.{across, down, windows-small}
-use Rattle.search.specs.Listing.{windowPlace}
-use Rattle.search.specs.Listing.Columns.{Older}
-use Rattle.search.specs.Listing.Windows.{Reached, reached-none, reached-long, reached-room, reached-more, answered, step-asks, window-first, window-next}
+use Rattle.matching.specs.Windows.{windowPlace, window-first, window-next, step-asks}
+use Rattle.theory.specs.Older.{Older}
+use Rattle.search.specs.Listing.Windows.{Reached, reached-none, reached-long, reached-room, reached-more, answered}
 use Rattle.search.proofs.writing.write_windows.Statement.{statement}
 use Rattle.search.proofs.writing.write_windows.Tie as tie
 
@@ -70,7 +71,7 @@ next-window-requires c κs =
     let o = c .before .before .before .before .before .before .before .before .before .before .before .before .before .before .before .before .before .before in
     let a = o .args in
     let i = c .before .before .before .before .before .before .before .before .loop in
-    step-asks (now (a .text)) (now (a .pattern)) (a .s) (now (a .flags)) (a .symbols) (now (a .places)) (o .pre .0) (o .pre .1) (i .k) (c .before .before .before .before .before .before .before .loop-test .taken) (i .v) (i .inv .1)
+    step-asks (length (now (a .text))) (a .s) (o .pre .0 .shape) (i .k) (c .before .before .before .before .before .before .before .loop-test .taken) (i .v) (i .inv .1)
 
 add-base : tie.Need-add-base Inv-loop μ-loop
 add-base c =

@@ -1,0 +1,109 @@
+-- Taking the lowest symbol out of a set again and again gives the symbols of the set, rising and each once, and then leaves nothing.
+-- Assumes nothing.
+use mathlib.Core.Path.{_≡_, refl, sym, ap, _∙_}
+use mathlib.Core.Bool.{Bool, true, false}
+use mathlib.Core.Logic.{_↔_}
+use mathlib.Core.List.{List, [], _∷_}
+use Prim.Native.Nat.{ℕ, zero, suc, _≤_, _<_}
+use native.Mathlib.Decide.{decLt}
+use native.Mathlib.Omega.{arith}
+use lib.Dec.{eqb}
+use lib.ListN.{length}
+use borrow.Author.Tests.{eq-eqb, ne-eqb}
+use Rattle.theory.specs.Test.{pick, pick-true, pick-false, true-false}
+use Rattle.theory.specs.First.{First, first-spec}
+use Rattle.theory.specs.Count.{count, members, count-none, members-none, length-members, members-least, members-iff, members-rising, Entry, Rising}
+use Rattle.sets.specs.declared.symbols.Symbols.{Symbols}
+use Rattle.sets.specs.Symbols.{has, sizeOf, lowestOf, withoutSymbol, taken}
+use Rattle.sets.specs.Symbols.Blocks.{has-set}
+
+-- what is left of a set when the lowest symbol has been taken out n times
+unfoldable pub remaining : ℕ → Symbols → Symbols
+remaining zero s = s
+remaining (suc n) s = remaining n (withoutSymbol s (lowestOf s))
+
+-- a set that has a symbol has a lowest one
+lowest-below : (s : Symbols) (n : ℕ) → sizeOf s ≡ suc n → lowestOf s < 256
+lowest-below s n e = go (decLt (lowestOf s) 256)
+  where
+    go : Dec (lowestOf s < 256) → lowestOf s < 256
+    go (yes h) = h
+    go (no d) =
+        absurd (let none : count (has s) 256 ≡ 0 = count-none (has s) 256 (λ k l. first-spec (has s) 256 .before k (omega arith)) in omega arith)
+
+-- the lowest symbol, and then those of the set without it
+pub members-lowest : (s : Symbols) → lowestOf s < 256 → members (has s) 256 ≡ lowestOf s ∷ members (has (withoutSymbol s (lowestOf s))) 256
+members-lowest s l =
+    members-least (has s) (has (withoutSymbol s (lowestOf s))) 256 (lowestOf s) l (spec .hit l) (spec .before)
+    (without (lowestOf s) l ∙ pick-true false (has s (lowestOf s)) (eq-eqb (lowestOf s) (lowestOf s) refl))
+    (λ k m d. without k m ∙ pick-false false (has s k) (ne-eqb k (lowestOf s) d))
+  where
+    spec : First (has s) 256 (lowestOf s)
+    spec = first-spec (has s) 256
+
+    without : (v : ℕ) → v < 256 → has (withoutSymbol s (lowestOf s)) v ≡ pick (eqb v (lowestOf s)) false (has s v)
+    without v h = has-set (λ u. pick (eqb u (lowestOf s)) false (has s u)) v h
+
+-- and where there is no lowest one, there is none
+pub members-over : (s : Symbols) → 256 ≤ lowestOf s → members (has s) 256 ≡ []
+members-over s h = members-none (has s) 256 (λ k l. first-spec (has s) 256 .before k (omega arith))
+
+-- so one symbol less is left
+pub members-less : (s rest : Symbols) (a : ℕ) → rest ≡ withoutSymbol s a → a ≡ lowestOf s → a < 256 → length (members (has rest) 256) < length (members (has s) 256)
+members-less s rest a r e h = rw (r, e) (let m = ap length (members-lowest s (omega arith)) in omega arith)
+
+-- the lowest one is in the set
+pub lowest-has : (s : Symbols) (a : ℕ) → a ≡ lowestOf s → a < 256 → has s a ≡ true
+lowest-has s a e h = ap (has s) e ∙ first-spec (has s) 256 .hit (omega arith)
+
+-- and so are those that are left without any one
+pub without-has : (s rest : Symbols) (a b : ℕ) → rest ≡ withoutSymbol s a → b < 256 → has rest b ≡ true → has s b ≡ true
+without-has s rest a b r h t = go (eqb b a) (sym (has-set (λ u. pick (eqb u a) false (has s u)) b h) ∙ ap (λ (x : Symbols). has x b) (sym r) ∙ t)
+  where
+    go : (c : Bool) → pick c false (has s b) ≡ true → has s b ≡ true
+    go true x = absurd (true-false x refl)
+    go false x = x
+
+-- taking one out leaves one less
+size-without : (s : Symbols) (n : ℕ) → sizeOf s ≡ suc n → sizeOf (withoutSymbol s (lowestOf s)) ≡ n
+size-without s n e =
+    let m = ap length (members-lowest s (lowest-below s n e)) in
+    omega (arith, m, length-members (has s) 256, length-members (has (withoutSymbol s (lowestOf s))) 256)
+
+no-members : (xs : List ℕ) → length xs ≡ 0 → [] ≡ xs
+no-members [] e = refl
+no-members (x ∷ xs) e = absurd (omega arith)
+
+taken-all : (n : ℕ) (s : Symbols) → sizeOf s ≡ n → taken n s ≡ members (has s) 256
+unfolding taken
+taken-all zero s e = no-members (members (has s) 256) (length-members (has s) 256 ∙ e)
+taken-all (suc n) s e =
+    ap (λ (xs : List ℕ). lowestOf s ∷ xs) (taken-all n (withoutSymbol s (lowestOf s)) (size-without s n e)) ∙ sym (members-lowest s (lowest-below s n e))
+
+-- as many takes as the set has symbols give all of them, rising and each once
+pub taken-members : (s : Symbols) → taken (sizeOf s) s ≡ members (has s) 256
+taken-members s = taken-all (sizeOf s) s refl
+
+-- so a symbol is taken exactly if it is in the set, and each is greater than those taken before it
+pub taken-iff : (s : Symbols) (v : ℕ) → Entry (taken (sizeOf s) s) v ↔ ((v < 256) × (has s v ≡ true))
+taken-iff s v = rw (taken-members s) (members-iff (has s) 256 v)
+
+pub taken-rising : (s : Symbols) → Rising (taken (sizeOf s) s)
+taken-rising s = rw (taken-members s) (members-rising (has s) 256)
+
+remaining-size : (n : ℕ) (s : Symbols) → sizeOf s ≡ n → sizeOf (remaining n s) ≡ 0
+unfolding remaining
+remaining-size zero s e = e
+remaining-size (suc n) s e = remaining-size n (withoutSymbol s (lowestOf s)) (size-without s n e)
+
+-- a set with no symbol has no lowest one
+pub lowest-none : (s : Symbols) → sizeOf s ≡ 0 → lowestOf s ≡ 256
+lowest-none s e = go (decLt (lowestOf s) 256)
+  where
+    go : Dec (lowestOf s < 256) → lowestOf s ≡ 256
+    go (yes h) = absurd (let m = ap length (members-lowest s h) in omega (arith, m, length-members (has s) 256))
+    go (no d) = omega (arith, first-spec (has s) 256 .within)
+
+-- and then nothing is left
+pub taken-none : (s : Symbols) → lowestOf (remaining (sizeOf s) s) ≡ 256
+taken-none s = lowest-none (remaining (sizeOf s) s) (remaining-size (sizeOf s) s refl)

@@ -1,0 +1,2 @@
+// The lower library's second part: sets of symbols.
+pub mod symbols;

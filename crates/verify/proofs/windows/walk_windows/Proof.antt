@@ -1,0 +1,190 @@
+-- `windows::walk_windows` meets its contract. The invariant: v is window k, the walk over the windows before it has come to `at` and counted `found`, and no
+-- symbol is marked with this window's base. Where a window stops the walk, it stays so for those after it (`windows-stopped`).
+-- Assumes nothing.
+use mathlib.Core.Path.{_≡_, refl, sym, _∙_, ap}
+use native.Mathlib.Omega.{arith}
+use Prim.Native.Nat.{_+_, _-_, _*_, _≤_}
+use lib.ListN.{length}
+use borrow.Author.Needs.{needs}
+use denote.Ref.{now}
+use Rattle.theory.specs.Older.{Older}
+use Rattle.grid.specs.Counts.{across, down, windows-small}
+use Rattle.matching.specs.Windows.{windowPlace, window-first, window-next, step-asks}
+use Rattle.verify.specs.Check.{goes, stops, entryFrom, windowsTo, foundTo}
+use Rattle.verify.specs.Passages.{courseOf}
+use Rattle.verify.specs.Entries.{goes-inside}
+use Rattle.verify.specs.Windows.{windows-none, found-none, windows-step, windows-stopped, found-step, found-le, window-asks}
+use Rattle.verify.proofs.windows.walk_windows.Statement.{statement}
+use Rattle.verify.proofs.windows.walk_windows.Tie as tie
+
+abbrev Inv-loop : tie.InvT-loop
+Inv-loop text pattern symbols images₀ given₀ listing across n v₀ base₀ at₀ found₀ k₀ images given v base at found k =
+    (k ≤ n) × (v ≡ windowPlace (v₀ .columns) (v₀ .height) (v₀ .width) k) × (base ≡ 256 + k * 256) × (length images ≡ 256) × Older base given
+    × (windowsTo text (v₀ .columns) pattern (v₀ .height) (v₀ .width) listing k ≡ goes at)
+    × (found ≡ foundTo text (v₀ .columns) pattern (v₀ .height) (v₀ .width) listing k)
+
+abbrev μ-loop : tie.MeasureT-loop
+μ-loop text pattern symbols images₀ given₀ listing across n v₀ base₀ at₀ found₀ k₀ images given v base at found k = n - k
+
+add-across : tie.Need-add-across Inv-loop μ-loop
+add-across c = omega arith
+
+sub-across : tie.Need-sub-across Inv-loop μ-loop
+sub-across c = omega arith
+
+add-n : tie.Need-add-n Inv-loop μ-loop
+add-n c = omega arith
+
+sub-n : tie.Need-sub-n Inv-loop μ-loop
+sub-n c = omega arith
+
+mul-n : tie.Need-mul-n Inv-loop μ-loop
+mul-n c = let o = c .before .before .before .before .before .before .before .before in omega (arith, windows-small (o .args .s) _ (o .pre .0))
+
+loop-holds : tie.Need-loop-holds Inv-loop μ-loop
+loop-holds c =
+    let o = c .before .before .before .before .before .before .before .before in
+    let a = o .args in
+    let s = o .pre .0 in (
+      omega arith,
+      window-first (a .s .columns) (a .s .height) (a .s .width) (omega arith),
+      refl,
+      o .pre .3,
+      o .pre .4,
+      windows-none (now (a .text)) (a .s .columns) (now (a .pattern)) (a .s .height) (a .s .width) (now (a .listing)),
+      found-none (now (a .text)) (a .s .columns) (now (a .pattern)) (a .s .height) (a .s .width) (now (a .listing)),
+    )
+
+read-entry-requires : tie.Need-read-entry-requires Inv-loop μ-loop
+read-entry-requires c κs =
+    let l = c .before .before .before in
+    let o = l .before .before .before .before .before .before .before .before .before in
+    let a = o .args in
+    let i = l .loop in
+    let t = c .before .before .loop-test .taken in
+    let w = window-asks (now (a .text)) (now (a .pattern)) (a .s) (o .pre .0) (o .pre .1) (i .k) t (i .v) (i .inv .1) in (
+      w .0,
+      w .1,
+      o .pre .2,
+      i .inv .3,
+      i .inv .4,
+      omega (arith, i .inv .2, t, windows-small (a .s) _ (o .pre .0)),
+    )
+
+enum-known-step : tie.Need-enum-known-step Inv-loop μ-loop
+enum-known-step c = search needs
+
+-- a record of the window is bad
+halted : (c : tie.After-step Inv-loop μ-loop) →
+    let l = c .before .before .before .before .before .before in
+    let a = l .before .before .before .before .before .before .before .before .before .args in
+    stops (c .step .given .0 .0) ≡ entryFrom (now (a .text)) (now (a .pattern)) (l .loop .v) (now (a .listing)) (l .loop .at)
+halted c = ap courseOf (sym (c .step .given .1)) ∙ c .before .before .read-entry .ensures .0
+
+returns : tie.Need-returns Inv-loop μ-loop
+returns c =
+    let l = c .before .before .before .before .before .before .before in
+    let a = l .before .before .before .before .before .before .before .before .before .args in
+    let i = l .loop in
+    windows-stopped (now (a .text)) (a .s .columns) (now (a .pattern)) (a .s .height) (a .s .width) (now (a .listing)) (c .before .step .given .0 .0) (i .k + 1) _
+    (omega (arith, c .before .before .before .before .before .before .loop-test .taken))
+    (windows-step (now (a .text)) (a .s .columns) (now (a .pattern)) (a .s .height) (a .s .width) (now (a .listing)) (i .k) (i .at) (i .v) (i .inv .5) (i .inv .1) _ (halted (c .before)))
+
+enum-known-step-2 : tie.Need-enum-known-step-2 Inv-loop μ-loop
+enum-known-step-2 c = search needs
+
+-- the window's records are right, and the next one begins behind them
+gone : (c : tie.After-step2 Inv-loop μ-loop) →
+    let l = c .before .before .before .before .before .before in
+    let a = l .before .before .before .before .before .before .before .before .before .args in
+    goes (c .step2 .given .0 .0) ≡ entryFrom (now (a .text)) (now (a .pattern)) (l .loop .v) (now (a .listing)) (l .loop .at)
+gone c = ap courseOf (sym (c .step2 .given .1)) ∙ c .before .before .read-entry .ensures .0
+
+shared-slice-read-count-found : tie.Need-shared-slice-read-count-found Inv-loop μ-loop
+shared-slice-read-count-found c =
+    let l = c .before .before .before .before .before .before .before .before in
+    let a = l .before .before .before .before .before .before .before .before .before .args in
+    goes-inside (now (a .text)) (now (a .pattern)) (l .loop .v) (now (a .listing)) (l .loop .at) _ (gone (c .before .before))
+
+count-found-requires : tie.Need-count-found-requires Inv-loop μ-loop
+count-found-requires c κs =
+    let l = c .before .before .before .before .before .before .before .before in
+    let o = l .before .before .before .before .before .before .before .before .before in
+    let a = o .args in
+    let i = l .loop in
+    omega (
+      arith,
+      i .inv .6,
+      found-le (now (a .text)) (a .s .columns) (now (a .pattern)) (a .s .height) (a .s .width) (now (a .listing)) (i .k),
+      c .before .before .before .before .before .before .before .loop-test .taken,
+      windows-small (a .s) _ (o .pre .0),
+    )
+
+next-window-requires : tie.Need-next-window-requires Inv-loop μ-loop
+next-window-requires c κs =
+    let l = c .before .before .before .before .before .before .before .before .before in
+    let o = l .before .before .before .before .before .before .before .before .before in
+    step-asks (length (now (o .args .text))) (o .args .s) (o .pre .0) (l .loop .k) (c .before .before .before .before .before .before .before .before .loop-test .taken) (l .loop .v) (l .loop .inv .1)
+
+add-base : tie.Need-add-base Inv-loop μ-loop
+add-base c =
+    let l = c .before .before .before .before .before .before .before .before .before .before in
+    let o = l .before .before .before .before .before .before .before .before .before in
+    omega (arith, l .loop .inv .2, c .before .before .before .before .before .before .before .before .before .loop-test .taken, windows-small (o .args .s) _ (o .pre .0))
+
+add-k : tie.Need-add-k Inv-loop μ-loop
+add-k c =
+    let o = c .before .before .before .before .before .before .before .before .before .before .before .before .before .before .before .before .before .before .before in
+    omega (arith, c .before .before .before .before .before .before .before .before .before .loop-test .taken, windows-small (o .args .s) _ (o .pre .0))
+
+loop-less : tie.Need-loop-less Inv-loop μ-loop
+loop-less c = omega (arith, c .before .before .before .before .before .before .before .before .before .loop-test .taken)
+
+loop-again : tie.Need-loop-again Inv-loop μ-loop
+loop-again c =
+    let l = c .before .before .before .before .before .before .before .before .before .before in
+    let a = l .before .before .before .before .before .before .before .before .before .args in
+    let i = l .loop in
+    let e = c .before .before .before .before .before .before .read-entry .ensures in
+    let g = gone (c .before .before .before .before) in (
+      omega (arith, c .before .before .before .before .before .before .before .before .before .loop-test .taken),
+      window-next (a .s .columns) (a .s .height) (a .s .width) (i .k) (i .v) _ (i .inv .1) (c .next-window .ensures),
+      omega (arith, i .inv .2),
+      e .1 .1,
+      e .1 .0,
+      windows-step (now (a .text)) (a .s .columns) (now (a .pattern)) (a .s .height) (a .s .width) (now (a .listing)) (i .k) (i .at) (i .v) (i .inv .5) (i .inv .1) _ g,
+      found-step (now (a .text)) (a .s .columns) (now (a .pattern)) (a .s .height) (a .s .width) (now (a .listing)) (i .k) (i .at) (i .v) (i .inv .5) (i .inv .1) (i .found) _ _ g
+          (i .inv .6) (c .before .count-found .ensures),
+    )
+
+returns-2 : tie.Need-returns-2 Inv-loop μ-loop
+returns-2 c =
+    let o = c .before .before .before .before .before .before .before .before .before .before in
+    let i = c .before .loop in
+    let e : i .k ≡ down (o .args .s) * across (o .args .s) = omega (arith, i .inv .0, c .loop-test .left) in
+    (rw e at (i .inv .5), rw e at (i .inv .6))
+
+pub walk-windows-spec : {M : Type 1} → statement M
+walk-windows-spec =
+    tie.close
+    (tie.spec
+    Inv-loop
+    μ-loop
+    add-across
+    sub-across
+    add-n
+    sub-n
+    mul-n
+    loop-holds
+    read-entry-requires
+    enum-known-step
+    returns
+    enum-known-step-2
+    shared-slice-read-count-found
+    count-found-requires
+    next-window-requires
+    add-base
+    add-k
+    loop-less
+    loop-again
+    returns-2)

@@ -1,0 +1,64 @@
+-- Document 01's rules of a listing, without a walk: for every window an entry that is true of it, found or refused, and the bytes of these entries in
+-- their order, with the closing behind them, are the listing.
+-- Assumes nothing.
+pub mod Pairs
+pub mod Mismatches
+pub mod Entry
+pub mod Windows
+use mathlib.Core.Path.{_≡_}
+use mathlib.Core.Bool.{not}
+use mathlib.Core.List.{List, [], _∷_, _++_}
+use Prim.Native.Nat.{ℕ, _*_, _<_}
+use lib.ListN.{length}
+use Rattle.theory.specs.Join.{joined}
+use Rattle.theory.specs.Count.{count}
+use Rattle.theory.specs.Match.{Maps, Mismatch, Answer, matched, mismatched, isMatch}
+use Rattle.grid.specs.Shapes.{windows, Shaped}
+use Rattle.sets.specs.Symbols.{symbolsOf}
+use Rattle.matching.specs.Compare.{patternAt, windowOf, cellsOf}
+use Rattle.matching.specs.Windows.{windowPlace}
+use Rattle.matching.specs.declared.compare.WindowPlace.{WindowPlace}
+use Rattle.listing.specs.Entries.{bytesAll, entryOf}
+use Rattle.listing.specs.declared.records.Record.{Record}
+use Rattle.listing.specs.declared.records.Record.the-variants.{Closing}
+
+-- an entry is true of its window: found, and the images of the pattern's symbols carry the pattern onto the window, one-to-one; or refused, with two
+-- cells of the pattern, the earlier first, alike on one side only. Any such two will do.
+abbrev pub TrueOf : (ℕ → ℕ) → (ℕ → ℕ) → ℕ → (ℕ → ℕ) → Answer → Type 0
+TrueOf m w n image matched = Maps m w n image
+TrueOf m w n image (mismatched side q p) = (p < n) × Mismatch side m w q p
+
+-- the records of the window at a place that stands there so: found, and a pair for each of the pattern's symbols, rising; or the mismatch
+abbrev pub recordsAt : List ℕ → WindowPlace → (ℕ → ℕ) → Answer → List Record
+recordsAt pattern v image answer = entryOf (v .row) (v .column) (v .width) (symbolsOf pattern) image answer
+
+-- an entry for each window, by its number: how it stands, and the images of the pattern's symbols where it stands as found
+pub record Entries : Type 0 where
+  pub answer : ℕ → Answer
+  pub image : ℕ → ℕ → ℕ
+
+-- the records of the first n windows in their order
+unfoldable pub recordsTo : List ℕ → ℕ → ℕ → ℕ → Entries → ℕ → List Record
+recordsTo pattern columns height width e n = joined (λ k. recordsAt pattern (windowPlace columns height width k) (e .image k) (e .answer k)) n
+
+-- how many of the first n windows stand as found
+abbrev pub foundAmong : Entries → ℕ → ℕ
+foundAmong e n = count (λ k. isMatch (e .answer k)) n
+
+-- and how many as refused
+abbrev pub refusedAmong : Entries → ℕ → ℕ
+refusedAmong e n = count (λ k. not (isMatch (e .answer k))) n
+
+-- text and pattern fill their sides, and the pattern fits; these entries make the listing, with found and refused in the closing
+pub record Keeps (text : List ℕ) (rows columns : ℕ) (pattern : List ℕ) (height width : ℕ) (listing : List ℕ) (found refused : ℕ) (e : Entries) : Type 0 where
+  pub shape : Shaped (length text) rows columns height width
+  pub pattern-shape : length pattern ≡ height * width
+  pub each-true : (k : ℕ) → k < windows rows columns height width
+      → TrueOf (patternAt pattern) (windowOf text (windowPlace columns height width k)) (cellsOf (windowPlace columns height width k)) (e .image k) (e .answer k)
+  pub found-is : found ≡ foundAmong e (windows rows columns height width)
+  pub refused-is : refused ≡ refusedAmong e (windows rows columns height width)
+  pub bytes-are : listing ≡ bytesAll (recordsTo pattern columns height width e (windows rows columns height width) ++ (Closing found refused ∷ []))
+
+-- the listing keeps the rules, with that many windows found and refused
+abbrev pub KeepsRules : List ℕ → ℕ → ℕ → List ℕ → ℕ → ℕ → List ℕ → ℕ → ℕ → Type 0
+KeepsRules text rows columns pattern height width listing found refused = (e : Entries) × Keeps text rows columns pattern height width listing found refused e

@@ -1,0 +1,114 @@
+// All windows of a listing, row by row.
+ghost use mathlib.Core.Path.{_≡_};
+ghost use Prim.Native.Nat.{_+_, _*_, _<_};
+ghost use lib.Dec.{eqb};
+ghost use lib.ListN.{length, replicate};
+ghost use Rattle.theory.specs.Older.{Older};
+ghost use Rattle.theory.specs.Test.{pick};
+ghost use Rattle.grid.specs.Counts.{ShapeOf};
+ghost use Rattle.sets.specs.Symbols.{symbolsOf};
+ghost use Rattle.verify.specs.Windows.{WindowsWalked};
+use crate::entries::read_entry;
+use crate::passages::Passage;
+use grid::counts::Shape;
+use grid::refusals::Refusal;
+use matching::compare::WindowPlace;
+use matching::windows::next_window;
+use sets::symbols::list_symbols;
+use sets::symbols::symbols_of;
+
+// Where the windows end, and how many of them stand as found; or the first bad record.
+pub enum Walked {
+    Passed { at: usize, found: u16 },
+    Stopped(Refusal),
+}
+
+// A list before any symbol is in it.
+fn no_symbols() -> [u8; 256]
+    ensures { λ r. ⌜ r ≡ replicate 256 0 ⌝ }
+{
+    [0u8; 256]
+}
+
+// A column without entries.
+fn no_entries() -> [u32; 256]
+    ensures { λ r. ⌜ r ≡ replicate 256 0 ⌝ }
+{
+    [0u32; 256]
+}
+
+// The windows found so far, and one more where a found record stands.
+fn count_found(found: u16, kind: u8) -> u16
+    requires { ⌜ found < 65535 ⌝ }
+    ensures { λ r. ⌜ r ≡ pick (eqb kind 1) (found + 1) found ⌝ }
+{
+    if kind == 1 {
+        return found + 1;
+    }
+    found
+}
+
+// The records of every window, from the listing's first byte, with columns that no window has marked.
+fn walk_windows(
+    text: &[u8],
+    pattern: &[u8],
+    s: Shape,
+    symbols: &[u8],
+    images: &mut [u32; 256],
+    given: &mut [u32; 256],
+    listing: &[u8],
+) -> Walked
+    requires { ⌜ ShapeOf s (length (now text)) × (length (now pattern) ≡ s .height * s .width) × (now symbols ≡ symbolsOf (now pattern)) × (length (now images) ≡ 256) × Older 256 (now given) ⌝ }
+    ensures { λ r. ⌜ WindowsWalked (now (text .entry)) (now (pattern .entry)) s (now (listing .entry)) r ⌝ }
+{
+    let across = s.columns + 1 - s.width;
+    let n = (s.rows + 1 - s.height) * across;
+    let mut v = WindowPlace {
+        columns: s.columns,
+        row: 0,
+        column: 0,
+        height: s.height,
+        width: s.width,
+    };
+    let mut base = 256;
+    let mut at = 0;
+    let mut found = 0u16;
+    let mut k = 0;
+    while k < n {
+        let step = read_entry(text, v, pattern, symbols, base, images, given, listing, at);
+        match step {
+            Passage::Stopped(why) => {
+                return Walked::Stopped(why);
+            }
+            Passage::Passed(next) => {
+                found = count_found(found, listing[at]);
+                at = next;
+            }
+        }
+        v = next_window(v, across);
+        base += 256;
+        k += 1;
+    }
+    Walked::Passed { at, found }
+}
+
+// The records of every window, from the listing's first byte. The pattern's symbols are listed once, and not again for each window.
+pub fn read_windows(text: &[u8], pattern: &[u8], s: Shape, listing: &[u8]) -> Walked
+    requires { ⌜ ShapeOf s (length (now text)) × (length (now pattern) ≡ s .height * s .width) ⌝ }
+    ensures { λ r. ⌜ WindowsWalked (now (text .entry)) (now (pattern .entry)) s (now (listing .entry)) r ⌝ }
+{
+    let set = symbols_of(pattern);
+    let mut listed = no_symbols();
+    let d = list_symbols(set, &mut listed);
+    let mut images = no_entries();
+    let mut given = no_entries();
+    walk_windows(
+        text,
+        pattern,
+        s,
+        &listed[..d],
+        &mut images,
+        &mut given,
+        listing,
+    )
+}
