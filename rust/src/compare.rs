@@ -12,7 +12,9 @@ pub enum WindowAnswer {
     Mismatch {
         /// Whether they are alike in the pattern, and not in the window: document 01's kind 3. Otherwise its kind 4.
         alike_in_pattern: bool,
+        /// The earlier cell's position in the pattern.
         earlier: usize,
+        /// The later cell's position in the pattern.
         later: usize,
     },
 }

@@ -1,5 +1,5 @@
-//! The static library's functions, as the files of `crates/exports/src` have them. Nothing checks these lines against those files: when
-//! one changes, so must the other. There a slice is one parameter; here it is a pointer and then a length.
+//! The static library's functions, as the files of `crates/exports/src` have them. There a slice is one parameter; here it is a pointer
+//! and then a length. `include/colourway.h` says the same for C, and the test `header` compares the three.
 
 extern "C" {
     pub fn colourway_strip_links(
@@ -40,7 +40,7 @@ extern "C" {
 
     pub fn colourway_symbols_lowest(words: &[u64; 4]) -> u32;
 
-    pub fn colourway_symbols_without(words: &mut [u64; 4], symbol: u8);
+    pub fn colourway_symbols_without(words: &mut [u64; 4], v: u8);
 
     pub fn colourway_bijection_empty(forward: &mut [u16; 256], backward: &mut [u16; 256]);
 

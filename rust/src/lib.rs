@@ -1,12 +1,84 @@
 //! Safe wrappers of the proved operations on texts, windows, symbol sets and bijections, of the one-window question, and of the search
 //! with its listing, the listing's reader and its check.
 //!
-//! A text (document 01's sheet) is `rows` by `columns` symbols (yarn numbers), one byte each, row by row. Each wrapper hands its
-//! arguments on to one function of the static library, `crates/exports`. No function there asks anything of its caller, so a wrapper
-//! tests nothing and can't be misused: an input that makes no sense is refused, by document 01's number.
+//! A text (document 01's sheet) is `rows` by `columns` symbols (yarn numbers), one byte each, row by row; a pattern (motif) is `height`
+//! by `width`, laid out likewise. A window is the `height` by `width` part of the text at a corner (`row`, `column`), counted from 0. The
+//! pattern matches a window where a one-to-one renaming of its symbols, a [`Bijection`], gives the window's symbol in every cell.
+//! Where none does, two cells spoil the window: they are alike on one side only, a mismatch (clash).
 //!
-//! To build and test: `rt staticlib exports` at the repository's top, then `cargo test --release --offline` here. To measure the search
-//! beside a plain one, and the check beside the search: `cargo run --release --offline -p bench`.
+//! Each wrapper hands its arguments on to one function of the static library, `crates/exports`. No function there asks anything of its
+//! caller, so a wrapper tests nothing and can't be misused: an input that makes no sense is refused, by document 01's number.
+//!
+//! # Example
+//!
+//! Document 01's first draft: the search lists every window of the text 7 7 3 / 3 7 7 for the pattern 1 1 / 2 1, the reader takes the
+//! listing apart, and the check passes it.
+//!
+//! ```
+//! use colourway::{check, records, search, Buffers, Checked};
+//!
+//! let text = [7, 7, 3, 3, 7, 7];
+//! let pattern = [1, 1, 2, 1];
+//! let mut listing = [0; 64];
+//! let buffers = Buffers {
+//!     links: &mut [0; 4],  // rows × width
+//!     counts: &mut [0; 2], // one a window
+//!     flags: &mut [0; 2],  // one a window
+//!     listing: &mut listing,
+//! };
+//! let totals = search(&text, 2, 3, &pattern, 2, 2, buffers)?;
+//! let listing = &listing[..totals.length];
+//!
+//! let mut lines = Vec::new();
+//! for record in records(listing) {
+//!     lines.push(record?.to_string());
+//! }
+//! assert_eq!(
+//!     lines,
+//!     [
+//!         "1 0 0",         // found at row 0, column 0
+//!         "2 1 7",         // symbol 1 is 7 there
+//!         "2 2 3",         // symbol 2 is 3 there
+//!         "3 0 1 0 0 0 1", // refused at row 0, column 1: cells (0, 0) and (0, 1) are alike in the pattern only
+//!         "5 0 1 0 1",     // one found, one refused
+//!     ]
+//! );
+//! let checked = check(&text, 2, 3, &pattern, 2, 2, listing)?;
+//! assert_eq!(checked, Checked { found: 1, refused: 1 });
+//! # Ok::<(), Box<dyn std::error::Error>>(())
+//! ```
+//!
+//! # Refused by number
+//!
+//! | No. | [`Refusal`] | Condition | Given by |
+//! |---|---|---|---|
+//! | 1 | [`SizesMissing`](Refusal::SizesMissing) | fewer than 4 size bytes | the program |
+//! | 2 | [`SideRange`](Refusal::SideRange) | a side is 0 or above 255 | [`strip_links`], [`distinct_counts`], [`one_window`], [`search`], [`check`], the program |
+//! | 3 | [`CellCount`](Refusal::CellCount) | the cells given are not rows × columns in number | the same |
+//! | 4 | [`TooLarge`](Refusal::TooLarge) | the pattern, window or strip is taller or wider than the text | the same |
+//! | 5 | [`CornerOutside`](Refusal::CornerOutside) | the corner or the strip's column is beyond the last that fits | [`strip_links`], [`one_window`] |
+//! | 6 | [`ListingForm`](Refusal::ListingForm) | the listing has the wrong form | [`read`], [`check`] |
+//! | 7 | [`ListingFalse`](Refusal::ListingFalse) | the listing states what is not so | [`check`] |
+//! | 8 | [`TooManyCells`](Refusal::TooManyCells) | text or pattern has more than 16,384 cells | the program |
+//! | 9 | [`LinksBufferShort`](Refusal::LinksBufferShort) | the links buffer is shorter than rows × width | [`strip_links`], [`search`] |
+//! | 10 | [`WindowBufferShort`](Refusal::WindowBufferShort) | the flags or the counts buffer is shorter than the number of windows | [`distinct_counts`], [`search`] |
+//! | 11 | [`ListingBufferShort`](Refusal::ListingBufferShort) | the listing buffer is shorter than the listing | [`search`], the program |
+//! | 12 | [`HasOtherImage`](Refusal::HasOtherImage) | the pattern symbol already has another image | [`Bijection::pair`] |
+//! | 13 | [`HasOtherPreimage`](Refusal::HasOtherPreimage) | the text symbol is already another's image | [`Bijection::pair`] |
+//! | 14 | [`ColumnsDisagree`](Refusal::ColumnsDisagree) | the columns of a bijection disagree or hold a number above 256 | [`Bijection::pair`], [`Bijection::invert`], [`Bijection::compose`] |
+//! | 15 | [`CursorSpent`](Refusal::CursorSpent) | the cursor is at or past the end of the listing | [`read`] |
+//!
+//! Where an input earns several, the first in an operation's order is given. The order is 2, 3, 4, 5, 9, 10, 11 for those an operation has;
+//! 14, 12, 13 for a bijection; 15, 6 for the reader; 2, 3, 4 for the check, and then 6 or 7 by its first bad record. A refusal
+//! changes no buffer but where an operation says so: 11 alone does.
+//!
+//! # To build and test
+//!
+//! `rt staticlib exports` and `rt check colourway` at the repository's top, then `cargo test --release --offline` here. To measure the
+//! search beside a plain one, and the check beside the search: `cargo run --release --offline -p bench`. `include/colourway.h` has the
+//! same operations for C.
+
+#![warn(missing_docs)]
 
 mod bijections;
 mod check;
@@ -27,6 +99,8 @@ use std::fmt;
 #[derive(Clone, Copy, Debug, PartialEq, Eq)]
 #[repr(u8)]
 pub enum Refusal {
+    /// Fewer than 4 size bytes. The program alone gives it, and no operation here.
+    SizesMissing = 1,
     /// A side is 0 or above 255.
     SideRange = 2,
     /// The cells given are not rows × columns in number.
@@ -40,6 +114,8 @@ pub enum Refusal {
     ListingForm = 6,
     /// The listing has a record of right form that states what is not so.
     ListingFalse = 7,
+    /// The text or the pattern has more than 16,384 cells. The program alone gives it, and no operation here.
+    TooManyCells = 8,
     /// The links buffer is shorter than a strip.
     LinksBufferShort = 9,
     /// The flags or the counts buffer is shorter than the number of windows.
@@ -58,13 +134,15 @@ pub enum Refusal {
 
 impl Refusal {
     /// Every refusal, in the order of the numbers.
-    pub const ALL: [Refusal; 13] = [
+    pub const ALL: [Refusal; 15] = [
+        Refusal::SizesMissing,
         Refusal::SideRange,
         Refusal::CellCount,
         Refusal::TooLarge,
         Refusal::CornerOutside,
         Refusal::ListingForm,
         Refusal::ListingFalse,
+        Refusal::TooManyCells,
         Refusal::LinksBufferShort,
         Refusal::WindowBufferShort,
         Refusal::ListingBufferShort,
@@ -79,7 +157,7 @@ impl Refusal {
         self as u8
     }
 
-    /// The refusal that has this number, if there is one.
+    /// The refusal that has this number: there is one for each from 1 to 15, and no other.
     pub fn from_number(number: u8) -> Option<Refusal> {
         Refusal::ALL.into_iter().find(|why| why.number() == number)
     }
@@ -107,6 +185,9 @@ fn outcome(number: u8) -> Result<(), Refusal> {
 ///
 /// The link of a position is the distance back to the nearest earlier position of the strip with the same symbol, or 0. The first
 /// `rows * width` entries of `links` are written and the rest stay. A refusal changes none.
+///
+/// Refused by [`Refusal::SideRange`], [`Refusal::CellCount`], [`Refusal::TooLarge`], [`Refusal::CornerOutside`] and
+/// [`Refusal::LinksBufferShort`], in this order.
 pub fn strip_links(
     text: &[u8],
     rows: usize,
@@ -133,6 +214,8 @@ pub fn strip_links(
 /// Writes the number of different symbols in each window of `height` by `width` cells, row by row of corners (document 01's tallies).
 ///
 /// One entry of `counts` a window is written and the rest stay. A refusal changes none.
+///
+/// Refused by [`Refusal::SideRange`], [`Refusal::CellCount`], [`Refusal::TooLarge`] and [`Refusal::WindowBufferShort`], in this order.
 pub fn distinct_counts(
     text: &[u8],
     rows: usize,

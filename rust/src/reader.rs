@@ -7,7 +7,9 @@ use std::fmt;
 /// A place by row and column: a window's corner in the text, or a cell in the pattern.
 #[derive(Clone, Copy, Debug, PartialEq, Eq)]
 pub struct Place {
+    /// The row, from 0.
     pub row: u8,
+    /// The column, from 0.
     pub column: u8,
 }
 
@@ -15,19 +17,35 @@ pub struct Place {
 #[derive(Clone, Copy, Debug, PartialEq, Eq)]
 pub enum Record {
     /// Kind 1: the pattern matches the window. The pairs come next.
-    Found { window: Place },
+    Found {
+        /// The window's corner.
+        window: Place,
+    },
     /// Kind 2: a symbol of the pattern, and the window's symbol in its cells.
-    Pair { pattern: u8, text: u8 },
+    Pair {
+        /// The pattern's symbol.
+        pattern: u8,
+        /// The window's symbol in its cells.
+        text: u8,
+    },
     /// Kinds 3 and 4: two cells that are alike on one side only (document 01's clash).
     Mismatch {
         /// Whether they are alike in the pattern, and not in the window: kind 3. Otherwise kind 4.
         alike_in_pattern: bool,
+        /// The window's corner.
         window: Place,
+        /// The earlier cell, by its place in the pattern.
         earlier: Place,
+        /// The later cell, by its place in the pattern.
         later: Place,
     },
     /// Kind 5: how many windows were found and how many refused.
-    Closing { found: u16, refused: u16 },
+    Closing {
+        /// How many were found.
+        found: u16,
+        /// How many were refused.
+        refused: u16,
+    },
 }
 
 impl Record {

@@ -67,28 +67,30 @@ impl std::error::Error for SearchRefusal {}
 /// There are `(rows - height + 1) * (columns - width + 1)` windows. With `d` symbols in the pattern a match takes `3 + 3 * d` bytes of
 /// the listing, a mismatch 7 and the closing 5.
 ///
-/// ```
-/// use colourway::{records, search, Buffers, Totals};
+/// How long a listing is, is known when all windows have been compared. A search that is lent no room for it tells:
 ///
-/// let text = [7, 7, 3, 3, 7, 7];
-/// let pattern = [1, 1, 2, 1];
-/// let mut listing = [0; 64];
-/// let buffers = Buffers {
-///     links: &mut [0; 4],
-///     counts: &mut [0; 2],
-///     flags: &mut [0; 2],
-///     listing: &mut listing,
+/// ```
+/// use colourway::{search, Buffers, SearchRefusal, Totals};
+///
+/// // Document 01's first draft.
+/// let first_draft = |listing: &mut [u8]| {
+///     let buffers = Buffers {
+///         links: &mut [0; 4],
+///         counts: &mut [0; 2],
+///         flags: &mut [0; 2],
+///         listing,
+///     };
+///     search(&[7, 7, 3, 3, 7, 7], 2, 3, &[1, 1, 2, 1], 2, 2, buffers)
 /// };
-/// let totals = search(&text, 2, 3, &pattern, 2, 2, buffers)?;
-/// assert_eq!(totals, Totals { found: 1, refused: 1, length: 21 });
+/// let refusal = first_draft(&mut []).unwrap_err();
+/// assert_eq!(refusal, SearchRefusal::ListingBufferShort { needed: 21 });
 ///
-/// let mut lines = Vec::new();
-/// for record in records(&listing[..totals.length]) {
-///     lines.push(record?.to_string());
-/// }
-/// assert_eq!(lines, ["1 0 0", "2 1 7", "2 2 3", "3 0 1 0 0 0 1", "5 0 1 0 1"]);
-/// # Ok::<(), Box<dyn std::error::Error>>(())
+/// let totals = first_draft(&mut [0; 21])?;
+/// assert_eq!(totals, Totals { found: 1, refused: 1, length: 21 });
+/// # Ok::<(), SearchRefusal>(())
 /// ```
+///
+/// The crate's own example reads the listing.
 pub fn search(
     text: &[u8],
     rows: usize,

@@ -1,13 +1,13 @@
 // Document 01's forms of output: a record a line, and a refusal.
 ghost use Prim.Native.Nat.{_<_};
 ghost use lib.ListN.{length};
-use grid::refusals::Refusal;
-use grid::refusals::refusal_number;
 use libc::STDOUT_FILENO;
 use listing::reader::Cursor;
 use listing::reader::Read;
 use listing::records::Record;
 use listing::records::Spoiled;
+use shapes::refusals::Refusal;
+use shapes::refusals::refusal_number;
 
 // Writes bytes as they are.
 pub fn print(bytes: &[u8]) {

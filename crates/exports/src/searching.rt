@@ -1,63 +1,11 @@
 // The search for Rust and C.
 ghost use mathlib.Core.Path.{_≡_};
 ghost use lib.ListN.{length};
-ghost use Rattle.search.specs.Search.{searchedNumber, searchNumber, linksAfterSearch, countsAfterSearch, flagsAfterSearch, listingAfterSearch};
-ghost use Rattle.exports.specs.Searching.{totalsBeside, totalsIn, searchTotals};
-use grid::refusals::Refusal;
-use grid::refusals::refusal_number;
-use search::search::Searched;
+ghost use Rattle.search.specs.Search.{searchNumber, linksAfterSearch, countsAfterSearch, flagsAfterSearch, listingAfterSearch};
+ghost use Rattle.values.specs.Searching.{searchTotals};
 use search::search::search;
-
-// The number of an answer.
-fn searched_number(answer: Searched) -> u8
-    ensures { λ r. ⌜ r ≡ searchedNumber answer ⌝ }
-{
-    match answer {
-        Searched::Listed {
-            found: _,
-            refused: _,
-            length: _,
-        } => 0,
-        Searched::Refused(why) => refusal_number(why),
-    }
-}
-
-// What a refusal returns besides its number, as totals: the length needed, or else what stood there.
-fn totals_beside(why: Refusal, old: [usize; 3]) -> [usize; 3]
-    ensures { λ r. ⌜ r ≡ totalsBeside why old ⌝ }
-{
-    match why {
-        Refusal::SizesMissing => old,
-        Refusal::SideRange => old,
-        Refusal::CellCount => old,
-        Refusal::TooLarge => old,
-        Refusal::CornerOutside => old,
-        Refusal::ListingForm(_) => old,
-        Refusal::ListingFalse(_) => old,
-        Refusal::TooManyCells => old,
-        Refusal::LinksBufferShort => old,
-        Refusal::WindowBufferShort => old,
-        Refusal::ListingBufferShort(needed) => [0, 0, needed],
-        Refusal::HasOtherImage => old,
-        Refusal::HasOtherPreimage => old,
-        Refusal::ColumnsDisagree => old,
-        Refusal::CursorSpent(_) => old,
-    }
-}
-
-// The totals of an answer: found, refused and the length.
-fn totals_in(answer: Searched, old: [usize; 3]) -> [usize; 3]
-    ensures { λ r. ⌜ r ≡ totalsIn answer old ⌝ }
-{
-    match answer {
-        Searched::Listed {
-            found,
-            refused,
-            length,
-        } => [found as usize, refused as usize, length],
-        Searched::Refused(why) => totals_beside(why, old),
-    }
-}
+use values::searching::searched_number;
+use values::searching::totals_in;
 
 // Searches a text for a pattern (document 01, 'Search and listing'). Found, refused and the length go to totals; refused by 11, two zeros and the length
 // needed. Any other refusal changes nothing.

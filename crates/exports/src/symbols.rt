@@ -1,27 +1,9 @@
 // Sets of symbols for Rust and C: a set passes as four words.
 ghost use mathlib.Core.Path.{_≡_};
 ghost use Rattle.sets.specs.Symbols.{symbolSet, sizeOf, lowestOf, withoutSymbol};
-ghost use Rattle.exports.specs.Symbols.{wordsOf, symbolsIn};
-use sets::symbols::Symbols;
-
-// A set's four words.
-fn words_of(s: Symbols) -> [u64; 4]
-    ensures { λ r. ⌜ r ≡ wordsOf s ⌝ }
-{
-    [s.w0, s.w1, s.w2, s.w3]
-}
-
-// The set that four words hold.
-fn symbols_in(words: &[u64; 4]) -> Symbols
-    ensures { λ r. ⌜ r ≡ symbolsIn (now (words .entry)) ⌝ }
-{
-    Symbols {
-        w0: words[0],
-        w1: words[1],
-        w2: words[2],
-        w3: words[3],
-    }
-}
+ghost use Rattle.values.specs.Symbols.{wordsOf, symbolsIn};
+use values::symbols::symbols_in;
+use values::symbols::words_of;
 
 // The set of a pattern's symbols (document 01, 'Tallies'), as four words: bit k of word i is 1 where symbol 64 i + k is in the set.
 #[no_mangle]

@@ -3,9 +3,9 @@ ghost use mathlib.Core.Path.{_≡_};
 ghost use lib.ListN.{length};
 ghost use Rattle.grid.specs.Strips.{linksNumber, linksAfter};
 ghost use Rattle.grid.specs.Counts.{countsNumber, countsAfter};
-ghost use Rattle.grid.specs.Windows.{cellOf, cellNumber};
-use grid::refusals::outcome_number;
-use grid::windows::Cell;
+ghost use Rattle.shapes.specs.Windows.{cellOf, cellNumber};
+use shapes::refusals::outcome_number;
+use shapes::windows::Cell;
 
 // The links of the strip of that width whose first column is left (document 01, 'Strips and links').
 #[no_mangle]
@@ -51,7 +51,7 @@ pub extern "C" fn colourway_window_cell(
 ) -> u16
     ensures { λ r. ⌜ r ≡ cellNumber (cellOf (now (text .entry)) «row_width» row column i j) ⌝ }
 {
-    match grid::windows::window_cell(text, row_width, row, column, i, j) {
+    match shapes::windows::window_cell(text, row_width, row, column, i, j) {
         Cell::Symbol(v) => v as u16,
         Cell::PastEnd => 256,
     }

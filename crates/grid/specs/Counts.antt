@@ -12,9 +12,9 @@ use borrow.Author.Tests.{le-leb, lt-leb}
 use Rattle.theory.specs.Test.{le-tested, says-true}
 use Rattle.theory.specs.Table.{table, length-table}
 use Rattle.theory.specs.Store.{storedRows, rows-all, Covers}
-use Rattle.grid.specs.Refusals.{unless, bufferAfter, buffer-refused}
-use Rattle.grid.specs.Shapes.{shapeThen, goodCells, corners, windows, Shaped, product-le, shape-refused, shape-then-zero, one-passed, text-passed, text-passes}
-use Rattle.grid.specs.Windows.{windowCells, rowCells, cornerRow, cornerColumn, corner-row, corner-column, row-inside, length-row-le, length-cells, cells-none, cells-last-row, cells-first-row}
+use Rattle.shapes.specs.Refusals.{unless, bufferAfter, buffer-refused}
+use Rattle.shapes.specs.Shapes.{shapeThen, goodCells, corners, windows, Shaped, product-le, shape-refused, shape-then-zero, one-passed, text-passed, text-passes}
+use Rattle.shapes.specs.Windows.{windowCells, rowCells, cornerRow, cornerColumn, corner-row, corner-column, row-inside, length-row-le, length-cells, cells-none, cells-last-row, cells-first-row}
 use Rattle.grid.specs.Distinct.{distinct}
 use Rattle.grid.specs.Occurrences.{Occurrences, Tracks, Room, Adds, size-le}
 use Rattle.grid.specs.declared.counts.Shape.{Shape}

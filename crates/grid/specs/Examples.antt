@@ -7,8 +7,8 @@ use native.Mathlib.Omega.{arith}
 use lib.ListN.{length}
 use Rattle.theory.specs.Test.{is-true}
 use Rattle.theory.specs.Table.{table}
-use Rattle.grid.specs.Shapes.{Shaped, Side, corner-inside}
-use Rattle.grid.specs.Windows.{example-text, example-cells, example-strips, example-length}
+use Rattle.shapes.specs.Shapes.{Shaped, Side, corner-inside}
+use Rattle.shapes.specs.Windows.{example-text, example-cells, example-strips, example-length}
 use Rattle.grid.specs.Distinct.{distinct, example-distinct}
 use Rattle.grid.specs.Strips.{linksNumber, linksAfter, links-accepted, links-after}
 use Rattle.grid.specs.Strips.Links.{links-of-list, example-link-values}

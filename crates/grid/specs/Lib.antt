@@ -1,6 +1,3 @@
-pub mod Refusals
-pub mod Shapes
-pub mod Windows
 pub mod Strips
 pub mod Distinct
 pub mod Occurrences

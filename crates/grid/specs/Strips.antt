@@ -14,9 +14,9 @@ use Rattle.theory.specs.Test.{pick, le-tested, says-true}
 use Rattle.theory.specs.First.{first}
 use Rattle.theory.specs.Table.{table, length-table}
 use Rattle.theory.specs.Store.{stored}
-use Rattle.grid.specs.Refusals.{unless, bufferAfter, buffer-refused}
-use Rattle.grid.specs.Shapes.{shapeThen, goodCells, cornerInside, corner-inside, Shaped, shape-refused, shape-then-zero, two-passed, text-passed, text-passes}
-use Rattle.grid.specs.Windows.{stripAt}
+use Rattle.shapes.specs.Refusals.{unless, bufferAfter, buffer-refused}
+use Rattle.shapes.specs.Shapes.{shapeThen, goodCells, cornerInside, corner-inside, Shaped, shape-refused, shape-then-zero, two-passed, text-passed, text-passes}
+use Rattle.shapes.specs.Windows.{stripAt}
 use Rattle.grid.specs.declared.strips.Strip.{Strip}
 
 -- the least d with 1 ≤ d ≤ p and s (p − d) = s p, or 0 where there is none

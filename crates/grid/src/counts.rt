@@ -6,14 +6,14 @@ ghost use Prim.Native.Nat.{_+_, _*_, _≤_, _<_};
 ghost use lib.ListN.{length};
 ghost use Rattle.theory.specs.Store.{stored, storedRows};
 ghost use Rattle.grid.specs.Occurrences.{occurrencesOf, Tracks, Room, Starts, Adds, Removes};
-ghost use Rattle.grid.specs.Refusals.{outcomeNumber};
-ghost use Rattle.grid.specs.Windows.{rowCells};
+ghost use Rattle.shapes.specs.Refusals.{outcomeNumber};
+ghost use Rattle.shapes.specs.Windows.{rowCells};
 ghost use Rattle.grid.specs.Counts.{countsNumber, countsAfter, ShapeOf, cellsOf, countOf, across, down};
-use crate::refusals::Outcome;
-use crate::refusals::Refusal;
-use crate::shapes::good_cells;
-use crate::shapes::shape_outcome;
-use crate::windows::row_cells;
+use shapes::refusals::Outcome;
+use shapes::refusals::Refusal;
+use shapes::shapes::good_cells;
+use shapes::shapes::shape_outcome;
+use shapes::windows::row_cells;
 
 // The sides of a text and of a window in it.
 pub struct Shape {

@@ -5,14 +5,14 @@ ghost use lib.Dec.{eqb};
 ghost use lib.ListN.{length};
 ghost use Rattle.theory.specs.Test.{pick};
 ghost use Rattle.theory.specs.Store.{storedRows};
-ghost use Rattle.grid.specs.Refusals.{outcomeNumber};
+ghost use Rattle.shapes.specs.Refusals.{outcomeNumber};
 ghost use Rattle.grid.specs.Strips.{link, linksNumber, linksAfter, stripSymbols, StripOf, LastPlaces, RowAt, Linkable, LinkedRow};
-use crate::refusals::Outcome;
-use crate::refusals::Refusal;
-use crate::shapes::corner_inside;
-use crate::shapes::good_cells;
-use crate::shapes::shape_outcome;
-use crate::windows::row_cells;
+use shapes::refusals::Outcome;
+use shapes::refusals::Refusal;
+use shapes::shapes::corner_inside;
+use shapes::shapes::good_cells;
+use shapes::shapes::shape_outcome;
+use shapes::windows::row_cells;
 
 // All rows of the columns from left on, as many as the strip is wide.
 pub struct Strip {

@@ -11,8 +11,8 @@ use lib.Dec.{ltb}
 use Rattle.theory.specs.Test.{Tested, tested-iff, tested-same, lt-tested}
 use Rattle.theory.specs.Count.{count-ext}
 use Rattle.theory.specs.Match.{Matches, Mismatch}
-use Rattle.grid.specs.Shapes.{Corner, corners, windows}
-use Rattle.grid.specs.Windows.{windowAt, cornerRow, cornerColumn}
+use Rattle.shapes.specs.Shapes.{Corner, corners, windows}
+use Rattle.shapes.specs.Windows.{windowAt, cornerRow, cornerColumn}
 use Rattle.matching.specs.Compare.{patternAt}
 use Rattle.listing.specs.Entries.{spoiledAt, mismatchRecord}
 use Rattle.listing.specs.declared.records.Record.{Record}

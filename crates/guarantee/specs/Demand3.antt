@@ -14,8 +14,8 @@ use Rattle.theory.specs.Test.{pick, both}
 use Rattle.theory.specs.Join.{joined}
 use Rattle.theory.specs.Count.{count}
 use Rattle.theory.specs.Match.{Matches, Mismatch}
-use Rattle.grid.specs.Shapes.{Corner, corners, windows}
-use Rattle.grid.specs.Windows.{windowAt, cornerRow, cornerColumn}
+use Rattle.shapes.specs.Shapes.{Corner, corners, windows}
+use Rattle.shapes.specs.Windows.{windowAt, cornerRow, cornerColumn}
 use Rattle.grid.specs.Distinct.{distinct}
 use Rattle.matching.specs.Compare.{patternAt}
 use Rattle.listing.specs.Entries.{bytesAll, pairsOf, spoiledAt, mismatchRecord, RightPairs}

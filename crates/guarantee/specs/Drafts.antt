@@ -14,8 +14,8 @@ use Rattle.theory.specs.First.{first}
 use Rattle.theory.specs.Join.{joined}
 use Rattle.theory.specs.Count.{count, members, members-ext}
 use Rattle.theory.specs.Match.{Answer, mismatchAt, earliest, ends, firstEnd, mismatchEnding, answerOf, imageOf, isMatch}
-use Rattle.grid.specs.Shapes.{corners, windows}
-use Rattle.grid.specs.Windows.{window-at, cornerRow, cornerColumn}
+use Rattle.shapes.specs.Shapes.{corners, windows}
+use Rattle.shapes.specs.Windows.{window-at, cornerRow, cornerColumn}
 use Rattle.grid.specs.Distinct.{contains}
 use Rattle.grid.specs.Distinct.Sets.{contains-none, contains-cons}
 use Rattle.grid.specs.Strips.{linksAfter}

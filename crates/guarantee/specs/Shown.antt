@@ -16,8 +16,8 @@ use Rattle.theory.specs.Join.{joined, joined-ext}
 use Rattle.theory.specs.Count.{count-ext, count-not, length-members}
 use Rattle.theory.specs.Match.{Matches, Answer, matched, mismatched, isMatch}
 use Rattle.theory.specs.Match.Answers.{no-mismatch-iff}
-use Rattle.grid.specs.Shapes.{Corner, corners, windows}
-use Rattle.grid.specs.Windows.{windowAt, cornerRow, cornerColumn, corner-row, corner-column}
+use Rattle.shapes.specs.Shapes.{Corner, corners, windows}
+use Rattle.shapes.specs.Windows.{windowAt, cornerRow, cornerColumn, corner-row, corner-column}
 use Rattle.sets.specs.Symbols.{symbolsOf}
 use Rattle.grid.specs.Distinct.{contains, distinct}
 use Rattle.grid.specs.Distinct.Sets.{distinct-count}

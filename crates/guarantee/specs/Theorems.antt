@@ -11,16 +11,16 @@ use lib.ListN.{length, getD, take}
 use Rattle.theory.specs.Match.{Answer, matched, mismatched, answerOf, imageOf}
 use Rattle.theory.specs.Match.Even.{maps-even, even-maps}
 use Rattle.theory.specs.Match.Answers.{match-iff, mismatch-iff}
-use Rattle.grid.specs.Shapes.{Corner, corners, Shaped}
+use Rattle.shapes.specs.Shapes.{Corner, corners, Shaped}
 use Rattle.sets.specs.Symbols.{symbolsOf}
-use Rattle.grid.specs.Windows.{corner-row, corner-column}
+use Rattle.shapes.specs.Windows.{corner-row, corner-column}
 use Rattle.matching.specs.Compare.{Answers}
 use Rattle.matching.specs.Compare.Accepted.{window-accepted-iff}
 use Rattle.matching.specs.declared.compare.WindowAnswer.{WindowAnswer}
 use Rattle.listing.specs.declared.records.Record.{Record}
-use Rattle.search.specs.Flags.{answerAt}
+use Rattle.flags.specs.Flags.{answerAt}
 use Rattle.search.specs.Listing.{imageAt, entryOfWindow, foundIn, refusedIn, searchRecords, searchListing, neededLength}
-use Rattle.search.specs.Flags.{Room}
+use Rattle.flags.specs.Flags.{Room}
 use Rattle.search.specs.Search.{searchNumber, valuesBeside, Searches, listingAfterSearch}
 use Rattle.search.specs.Search.Accepted.{sidesOf, search-passed}
 use Rattle.search.specs.Theorems.{verdictRecords, lists-answer, first-bytes}

@@ -13,10 +13,10 @@ use lib.ListN.{length, getD, take, drop, length-drop}
 use lib.Seq.{length-take-le}
 use borrow.Author.Tests.{ne-eqb}
 use Rattle.theory.specs.Test.{Tested, holds, fails, pick, lt-tested, says-true}
-use Rattle.grid.specs.Refusals.{numberOf, valuesOf, number-positive}
-use Rattle.grid.specs.Shapes.{two-passed}
-use Rattle.grid.specs.declared.refusals.Refusal.{Refusal}
-use Rattle.grid.specs.declared.refusals.Refusal.the-variants.{SizesMissing, SideRange, CellCount, TooLarge, CornerOutside, ListingForm, ListingFalse, TooManyCells, LinksBufferShort, WindowBufferShort, ListingBufferShort, HasOtherImage, HasOtherPreimage, ColumnsDisagree, CursorSpent}
+use Rattle.shapes.specs.Refusals.{numberOf, valuesOf, number-positive}
+use Rattle.shapes.specs.Shapes.{two-passed}
+use Rattle.shapes.specs.declared.refusals.Refusal.{Refusal}
+use Rattle.shapes.specs.declared.refusals.Refusal.the-variants.{SizesMissing, SideRange, CellCount, TooLarge, CornerOutside, ListingForm, ListingFalse, TooManyCells, LinksBufferShort, WindowBufferShort, ListingBufferShort, HasOtherImage, HasOtherPreimage, ColumnsDisagree, CursorSpent}
 use Rattle.listing.specs.Records.{bytesOf}
 use Rattle.listing.specs.Reader.{sizeAt, wholeAt, cursorNumber, readNumber, readValues, Reads}
 use Rattle.listing.specs.Reading.{HasRecord, whole-tested, has-inside, number-whole, reads-spent, reads-form}

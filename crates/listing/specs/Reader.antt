@@ -7,7 +7,7 @@ use Prim.Native.Nat.{ℕ, zero, suc, _+_, _<_}
 use lib.Dec.{ltb, leb}
 use lib.ListN.{length, getD, take, drop}
 use Rattle.theory.specs.Test.{both}
-use Rattle.grid.specs.Refusals.{numberOf, valuesOf, unless}
+use Rattle.shapes.specs.Refusals.{numberOf, valuesOf, unless}
 use Rattle.listing.specs.Records.{bytesOf, kindSize}
 use Rattle.listing.specs.declared.reader.Read.{Read}
 use Rattle.listing.specs.declared.reader.Read.the-variants.{Whole, Refused}

@@ -9,7 +9,7 @@ use lib.ListN.{length, getD, take, drop}
 use lib.Seq.{drop-cons}
 use borrow.Author.Tests.{ne-eqb}
 use Rattle.theory.specs.Test.{Tested, tested-iff, lt-tested, le-tested, both-tested, is-true, is-false}
-use Rattle.grid.specs.declared.refusals.Refusal.the-variants.{ListingForm, CursorSpent}
+use Rattle.shapes.specs.declared.refusals.Refusal.the-variants.{ListingForm, CursorSpent}
 use Rattle.listing.specs.Records.{bytesOf, kindSize}
 use Rattle.listing.specs.Reader.{sizeAt, wholeAt, cursorNumber, Reads, KindAt, bytesFrom}
 use Rattle.listing.specs.declared.records.Record.{Record}

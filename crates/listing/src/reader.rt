@@ -7,7 +7,7 @@ ghost use lib.ListN.{length};
 use crate::records::Place;
 use crate::records::Record;
 use crate::records::Spoiled;
-use grid::refusals::Refusal;
+use shapes::refusals::Refusal;
 
 // A place in a listing.
 pub struct Cursor {

@@ -11,11 +11,11 @@ use Prim.Native.Nat.{ℕ, zero, suc, _+_, _*_, _/_, _%_, _≤_, _<_}
 use lib.ListN.{length, getD, replicate}
 use Rattle.theory.specs.Test.{pick, both}
 use Rattle.theory.specs.Match.{Answer, matched, mismatched, answerOf, column}
-use Rattle.grid.specs.Refusals.{numberOf, valuesOf, unless}
-use Rattle.grid.specs.Shapes.{shapeThen, goodCells, cornerInside}
-use Rattle.grid.specs.Windows.{windowAt}
-use Rattle.matching.specs.Bijections.{emptyBijection}
-use Rattle.matching.specs.declared.bijections.Bijection.{Bijection}
+use Rattle.shapes.specs.Refusals.{numberOf, valuesOf, unless}
+use Rattle.shapes.specs.Shapes.{shapeThen, goodCells, cornerInside}
+use Rattle.shapes.specs.Windows.{windowAt}
+use Rattle.mapping.specs.Bijections.{emptyBijection}
+use Rattle.mapping.specs.declared.bijections.Bijection.{Bijection}
 use Rattle.matching.specs.declared.compare.WindowPlace.{WindowPlace}
 use Rattle.matching.specs.declared.compare.Walk.{Walk}
 use Rattle.matching.specs.declared.compare.Verdict.{Verdict}

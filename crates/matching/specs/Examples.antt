@@ -9,7 +9,7 @@ use Rattle.theory.specs.First.{first}
 use Rattle.theory.specs.Table.{getD-table}
 use Rattle.theory.specs.Match.{mismatchAt, earliest, ends, firstEnd, Answer, matched, mismatched, mismatchEnding, answerOf}
 use Rattle.theory.specs.Match.Ext.{answer-ext}
-use Rattle.grid.specs.Windows.{windowAt, windowCells, cells-table, example-text, example-cells}
+use Rattle.shapes.specs.Windows.{windowAt, windowCells, cells-table, example-text, example-cells}
 use Rattle.matching.specs.Compare.{patternAt}
 
 -- a window whose cells are known has the answer of its cells

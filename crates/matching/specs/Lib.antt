@@ -1,4 +1,3 @@
-pub mod Bijections
 pub mod Compare
 pub mod Places
 pub mod Windows

@@ -15,8 +15,8 @@ use Rattle.theory.specs.Match.Even.{even-carries, even-swap, maps-even, no-imag
 use Rattle.theory.specs.Match.Answers.{LeastMismatch, match-iff, mismatch-iff, no-mismatch-iff}
 use Rattle.theory.specs.Match.Images.{column-at, columns-agree}
 use Rattle.theory.specs.Columns.{Agree}
-use Rattle.grid.specs.Windows.{windowAt, window-at}
-use Rattle.matching.specs.Bijections.Laws.{empty-agrees}
+use Rattle.shapes.specs.Windows.{windowAt, window-at}
+use Rattle.mapping.specs.Bijections.Laws.{empty-agrees}
 use Rattle.matching.specs.Compare.{patternAt, windowNumber, verdictNumber, verdictValues, verdictOf, valuesAfter, bijectionOf, bijectionBeside, Answers}
 use Rattle.matching.specs.declared.compare.Verdict.{Verdict}
 use Rattle.matching.specs.declared.compare.Verdict.the-variants.{Match, Mismatch as MismatchVerdict, Refused}
@@ -39,7 +39,7 @@ verdict-is (MismatchVerdict s q p) (mismatched t i k) n e =
     let first : q ≡ i = cc in
     let second : p ≡ k = cc in
     cc
-verdict-is (Refused why) a n e = absurd (omega (arith, Rattle.grid.specs.Refusals.number-positive why))
+verdict-is (Refused why) a n e = absurd (omega (arith, Rattle.shapes.specs.Refusals.number-positive why))
 
 answered-agrees : (m w : ℕ → ℕ) (n : ℕ) → ((k : ℕ) → m k < 256) → ((k : ℕ) → w k < 256) → (a : Answer) → answerOf m w n ≡ a
     → Agree (bijectionOf m w n a .forward) (bijectionOf m w n a .backward)

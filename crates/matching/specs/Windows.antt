@@ -6,8 +6,8 @@ use Prim.Native.Nat.{ℕ, _+_, _*_, _/_, _%_, _≤_, _<_}
 use native.Mathlib.Nat.{mod-lt, div-lt-iff-lt-mul, div-eq-of-lt, mod-eq-of-lt, mul-le-mul-right}
 use native.Mathlib.Omega.{arith}
 use lib.ListN.{length}
-use Rattle.grid.specs.Shapes.{corners, product-le}
-use Rattle.grid.specs.Windows.{cornerRow, cornerColumn}
+use Rattle.shapes.specs.Shapes.{corners, product-le}
+use Rattle.shapes.specs.Windows.{cornerRow, cornerColumn}
 use Rattle.grid.specs.Counts.{ShapeOf, across, down}
 use Rattle.grid.specs.declared.counts.Shape.{Shape}
 use Rattle.matching.specs.Compare.{Placed}

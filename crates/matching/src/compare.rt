@@ -4,14 +4,14 @@ ghost use Prim.Native.Nat.{ℕ, _+_, _*_, _≤_, _<_};
 ghost use lib.ListN.{length};
 ghost use Rattle.theory.specs.Match.{mismatchBy, earliest, firstEnd, mismatchEnding, answerOf, column};
 ghost use Rattle.theory.specs.Match.Images.{agreesBy};
-ghost use Rattle.grid.specs.Refusals.{outcomeNumber};
+ghost use Rattle.shapes.specs.Refusals.{outcomeNumber};
 ghost use Rattle.matching.specs.Compare.{patternAt, windowOf, cellsOf, Placed, Walkable, WalkAt, noImages, verdictOf, windowNumber, bijectionBeside, Answers};
-use crate::bijections::Bijection;
-use crate::bijections::empty;
-use grid::refusals::Outcome;
-use grid::refusals::Refusal;
-use grid::shapes::corner_inside;
-use grid::shapes::pattern_outcome;
+use mapping::bijections::Bijection;
+use mapping::bijections::empty;
+use shapes::refusals::Outcome;
+use shapes::refusals::Refusal;
+use shapes::shapes::corner_inside;
+use shapes::shapes::pattern_outcome;
 
 // A window of a text: the text's row width, the window's corner and its sides.
 pub struct WindowPlace {

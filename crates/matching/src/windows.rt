@@ -1,7 +1,7 @@
 // The windows of a text one after another.
 ghost use mathlib.Core.Path.{_≡_};
 ghost use Prim.Native.Nat.{ℕ, _+_, _<_};
-ghost use Rattle.grid.specs.Shapes.{corners};
+ghost use Rattle.shapes.specs.Shapes.{corners};
 ghost use Rattle.matching.specs.Windows.{windowPlace};
 use crate::compare::WindowPlace;
 

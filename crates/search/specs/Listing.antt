@@ -14,8 +14,8 @@ use Prim.Native.Nat.{ℕ, _+_, _*_}
 use Rattle.theory.specs.Join.{joined}
 use Rattle.theory.specs.Count.{count}
 use Rattle.theory.specs.Match.{isMatch, imageOf, answerOf}
-use Rattle.grid.specs.Shapes.{corners, windows}
-use Rattle.grid.specs.Windows.{windowAt, cornerRow, cornerColumn}
+use Rattle.shapes.specs.Shapes.{corners, windows}
+use Rattle.shapes.specs.Windows.{windowAt, cornerRow, cornerColumn}
 use Rattle.sets.specs.Symbols.{symbolsOf}
 use Rattle.grid.specs.Distinct.{distinct}
 use Rattle.matching.specs.Compare.{patternAt, windowOf, cellsOf}
@@ -23,7 +23,7 @@ use Rattle.matching.specs.declared.compare.WindowPlace.{WindowPlace}
 use Rattle.listing.specs.Entries.{entryOf, bytesAll}
 use Rattle.listing.specs.declared.records.Record.{Record}
 use Rattle.listing.specs.declared.records.Record.the-variants.{Closing}
-use Rattle.search.specs.Flags.{answerAt}
+use Rattle.flags.specs.Flags.{answerAt}
 
 -- the image of each symbol in window k
 abbrev pub imageAt : List ℕ → ℕ → List ℕ → ℕ → ℕ → ℕ → ℕ → ℕ

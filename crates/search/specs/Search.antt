@@ -10,10 +10,10 @@ use lib.Dec.{eqb, leb}
 use lib.ListN.{length}
 use Rattle.theory.specs.Test.{pick, both}
 use Rattle.theory.specs.Table.{table}
-use Rattle.grid.specs.Refusals.{numberOf, valuesOf, unless, bufferAfter}
-use Rattle.grid.specs.Shapes.{shapeThen, goodCells, windows}
+use Rattle.shapes.specs.Refusals.{numberOf, valuesOf, unless, bufferAfter}
+use Rattle.shapes.specs.Shapes.{shapeThen, goodCells, windows}
 use Rattle.grid.specs.Counts.{windowCount}
-use Rattle.search.specs.Flags.{windowFlag}
+use Rattle.flags.specs.Flags.{windowFlag}
 use Rattle.search.specs.Listing.{foundIn, refusedIn, neededLength, searchListing}
 use Rattle.search.specs.declared.search.Searched.{Searched}
 use Rattle.search.specs.declared.search.Searched.the-variants.{Listed, Refused}

@@ -16,8 +16,8 @@ use Rattle.theory.specs.Match.{Matches, Answer, matched, mismatched, answerOf, 
 use Rattle.theory.specs.Match.Even.{maps-even, even-maps}
 use Rattle.theory.specs.Match.Answers.{LeastMismatch, match-iff, mismatch-iff}
 use Rattle.theory.specs.Match.Images.{column-at}
-use Rattle.grid.specs.Shapes.{corners, windows, Sized}
-use Rattle.grid.specs.Windows.{windowAt, corner-row, corner-column}
+use Rattle.shapes.specs.Shapes.{corners, windows, Sized}
+use Rattle.shapes.specs.Windows.{windowAt, corner-row, corner-column}
 use Rattle.sets.specs.Symbols.{symbolsOf}
 use Rattle.grid.specs.Distinct.{contains}
 use Rattle.grid.specs.Counts.{countsAfter, counts-accepted, counts-after, windowCount}
@@ -33,7 +33,7 @@ use Rattle.listing.specs.Entries.{bytesAll, bytes-cons, bytes-append, pairsOf, 
 use Rattle.listing.specs.declared.records.Record.{Record}
 use Rattle.listing.specs.declared.records.Record.the-variants.{Found}
 use Rattle.listing.specs.declared.reader.Read.the-variants.{Whole}
-use Rattle.search.specs.Flags.{windowFlag, flag-one}
+use Rattle.flags.specs.Flags.{windowFlag, flag-one}
 use Rattle.search.specs.Listing.{entryOfWindow, foundIn, refusedIn, searchRecords, searchListing, neededLength}
 use Rattle.search.specs.Listing.Totals.{found-refused}
 use Rattle.search.specs.Listing.Length.{length-listing}

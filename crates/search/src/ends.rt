@@ -2,8 +2,9 @@
 // stands for no image, whatever an earlier window left there, and an entry base + v for the image v. The base rises by 256 with each window, and there are
 // at most 255 × 255 of them, so it stays below 2^24.
 ghost use mathlib.Core.Path.{_≡_};
+ghost use mathlib.Core.Bool.{true};
 ghost use Prim.Native.Nat.{_+_, _≤_, _<_};
-ghost use lib.ListN.{length};
+ghost use lib.ListN.{length, getD};
 ghost use Rattle.theory.specs.Match.{firstEnd};
 ghost use Rattle.matching.specs.Compare.{patternAt, windowOf, cellsOf, Placed};
 ghost use Rattle.theory.specs.Older.{Older};
@@ -34,7 +35,21 @@ fn pair_up(forward: &mut [u32; 256], backward: &mut [u32; 256], base: u32, a: u8
     true
 }
 
-// The first cell of a row at which a mismatch ends, or the row's length where none does: cells is the pattern's row, row the window's.
+// Whether two cells have their pairs already, as most cells do where a window ends late or not at all: then there is nothing else to ask.
+fn two_paired(forward: &[u32; 256], base: u32, a: u8, c: u8, b: u8, d: u8) -> bool
+    requires { ⌜ (length (now forward) ≡ 256) × (base ≤ 16777216) ⌝ }
+    ensures { λ r. ⌜ (r ≡ true → (getD (now (forward .entry)) a 0 ≡ base + c) × (getD (now (forward .entry)) b 0 ≡ base + d)) ⌝ }
+{
+    if forward[a as usize] == base + c as u32 {
+        if forward[b as usize] == base + d as u32 {
+            return true;
+        }
+    }
+    false
+}
+
+// The first cell of a row at which a mismatch ends, or the row's length where none does: cells is the pattern's row, row the window's. Two cells a round
+// where both have their pairs already.
 fn row_end(
     row: &[u8],
     cells: &[u8],
@@ -46,10 +61,20 @@ fn row_end(
     ensures { λ r. ⌜ EndsRow base (now (row .entry)) (now (cells .entry)) (now (forward .entry)) (now (backward .entry)) r (now (forward .exit)) (now (backward .exit)) ⌝ }
 {
     let mut j = 0;
-    while j < row.len() {
+    while j + 1 < row.len() {
         let a = cells[j];
         let c = row[j];
+        if two_paired(forward, base, a, c, cells[j + 1], row[j + 1]) {
+            j += 2;
+            continue;
+        }
         if !pair_up(forward, backward, base, a, c) {
+            return j;
+        }
+        j += 1;
+    }
+    if j < row.len() {
+        if !pair_up(forward, backward, base, cells[j], row[j]) {
             return j;
         }
         j += 1;

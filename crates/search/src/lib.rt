@@ -1,7 +1,6 @@
 // The search: the flag of every window, and then the listing. Its steps are parts of it, and no operations of their own.
 mod ends;
 mod entries;
-mod flags;
 pub mod search;
 mod totals;
 mod writing;

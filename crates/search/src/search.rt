@@ -3,19 +3,19 @@ ghost use mathlib.Core.Path.{_≡_};
 ghost use lib.ListN.{length};
 ghost use Prim.Native.Nat.{_*_};
 ghost use Rattle.theory.specs.Table.{table};
-ghost use Rattle.grid.specs.Refusals.{outcomeNumber, bufferAfter};
+ghost use Rattle.shapes.specs.Refusals.{outcomeNumber, bufferAfter};
 ghost use Rattle.grid.specs.Counts.{across, down, countOf};
-ghost use Rattle.search.specs.Flags.Strips.{flagOf};
-ghost use Rattle.search.specs.Flags.{Room};
+ghost use Rattle.flags.specs.Flags.Strips.{flagOf};
+ghost use Rattle.flags.specs.Flags.{Room};
 ghost use Rattle.search.specs.Listing.{neededLength, searchListing};
 ghost use Rattle.search.specs.Search.{roomNumber, listingNumber, AnswerIs, Searches, countsAfterSearch, flagsAfterSearch, linksAfterSearch, listingAfterSearch};
-use crate::flags::flag_all;
 use crate::totals::totals_of;
 use crate::writing::write_listing;
+use flags::flags::flag_all;
 use grid::counts::Shape;
-use grid::refusals::Outcome;
-use grid::refusals::Refusal;
-use grid::shapes::pattern_outcome;
+use shapes::refusals::Outcome;
+use shapes::refusals::Refusal;
+use shapes::shapes::pattern_outcome;
 
 // What a search answers.
 pub enum Searched {

@@ -2,7 +2,7 @@
 ghost use mathlib.Core.Path.{_≡_};
 ghost use Prim.Native.Nat.{_≤_};
 ghost use lib.ListN.{length, replicate};
-ghost use Rattle.grid.specs.Refusals.{bufferAfter};
+ghost use Rattle.shapes.specs.Refusals.{bufferAfter};
 ghost use Rattle.listing.specs.Records.{written};
 ghost use Rattle.search.specs.Listing.{searchListing, foundIn, refusedIn};
 ghost use Rattle.theory.specs.Older.{Older};

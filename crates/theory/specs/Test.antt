@@ -80,6 +80,16 @@ both-tested (holds p) (holds q) = holds (p, q)
 both-tested (holds p) (fails n) = fails (λ h. n (h .1))
 both-tested (fails n) t = fails (λ h. n (h .0))
 
+-- a test after a test, as `&&` has it: the first fails, and is the answer
+pub first-fails : (a b : Bool) → a ≡ false → a ≡ both a b
+first-fails true b e = absurd (true-false refl e)
+first-fails false b e = refl
+
+-- the first passes, and the second is the answer
+pub first-passes : (a b : Bool) → a ≡ true → b ≡ both a b
+first-passes true b e = refl
+first-passes false b e = absurd (true-false e refl)
+
 pub not-tested : {P : Type 0} {a : Bool} → Tested P a → Tested (P → ⊥) (not a)
 not-tested (holds p) = fails (λ n. n p)
 not-tested (fails n) = holds n

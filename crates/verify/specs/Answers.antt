@@ -9,10 +9,11 @@ use lib.ListN.{length}
 use borrow.Author.Tests.{eq-eqb, ne-eqb}
 use Rattle.theory.specs.Test.{both, pick-true, pick-false, both-tested, says-true}
 use Rattle.theory.specs.Count.{count-not}
-use Rattle.grid.specs.Refusals.{numberOf, number-positive, no-values}
-use Rattle.grid.specs.Shapes.{Shaped, shapeThen, goodCells, good-cells, windows, shape-passed, shape-passes, shape-refused, shape-number-le}
-use Rattle.grid.specs.declared.refusals.Refusal.{Refusal}
-use Rattle.verify.specs.Check.{Course, goes, stops, closingFrom, windowsTo, standsFound, foundTo, refusedTo, listingCourse, checkedOf, listingAnswer, checkedNumber, checkedValues, shapeNumber, checkNumber, checkValues, Checks}
+use Rattle.shapes.specs.Refusals.{numberOf, number-positive, no-values}
+use Rattle.shapes.specs.Shapes.{Shaped, shapeThen, goodCells, good-cells, windows, shape-passed, shape-passes, shape-refused, shape-number-le}
+use Rattle.shapes.specs.declared.refusals.Refusal.{Refusal}
+use Rattle.claims.specs.Claims.{Course, goes, stops}
+use Rattle.verify.specs.Check.{closingFrom, windowsTo, standsFound, foundTo, refusedTo, listingCourse, checkedOf, listingAnswer, checkedNumber, checkedValues, shapeNumber, checkNumber, checkValues, Checks}
 use Rattle.verify.specs.declared.check.Checked.{Checked}
 use Rattle.verify.specs.declared.check.Checked.the-variants.{Kept, Refused}
 

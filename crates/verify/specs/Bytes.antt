@@ -11,8 +11,8 @@ use lib.Seq.{drop-cons, drop-drop, drop-append-seam, getD-drop}
 use Rattle.listing.specs.Records.{kindSize}
 use Rattle.listing.specs.Reader.{bytesFrom}
 use Rattle.theory.specs.Test.{is-true, is-false, says-true}
-use Rattle.verify.specs.Check.{byteAt, stands}
-use Rattle.verify.specs.Standing.{stands-tested, stands-within}
+use Rattle.claims.specs.Claims.{byteAt, stands}
+use Rattle.claims.specs.Standing.{stands-tested, stands-within}
 
 -- what stands from the place on begins with these bytes
 abbrev pub Holds : List ℕ → ℕ → List ℕ → Type 0

@@ -6,75 +6,27 @@ use mathlib.Core.Path.{_≡_}
 use mathlib.Core.Bool.{Bool, true, false, not}
 use mathlib.Core.List.{List, [], _∷_}
 use Prim.Native.Nat.{ℕ, zero, suc, _+_, _*_}
-use lib.Dec.{eqb, ltb}
-use lib.ListN.{length, getD}
+use lib.Dec.{eqb}
+use lib.ListN.{length}
 use Rattle.theory.specs.Test.{pick, both}
-use Rattle.theory.specs.First.{every}
 use Rattle.theory.specs.Count.{count}
-use Rattle.grid.specs.Refusals.{numberOf, valuesOf}
-use Rattle.grid.specs.Shapes.{shapeThen, goodCells, windows}
-use Rattle.grid.specs.Distinct.{contains}
+use Rattle.shapes.specs.Refusals.{numberOf, valuesOf}
+use Rattle.shapes.specs.Shapes.{shapeThen, goodCells, windows}
 use Rattle.sets.specs.Symbols.{symbolsOf}
-use Rattle.grid.specs.declared.refusals.Refusal.{Refusal}
-use Rattle.grid.specs.declared.refusals.Refusal.the-variants.{ListingForm, ListingFalse}
+use Rattle.shapes.specs.declared.refusals.Refusal.{Refusal}
+use Rattle.shapes.specs.declared.refusals.Refusal.the-variants.{ListingForm, ListingFalse}
 use Rattle.matching.specs.Compare.{patternAt, windowOf, cellsOf}
 use Rattle.matching.specs.Windows.{windowPlace}
 use Rattle.matching.specs.declared.compare.WindowPlace.{WindowPlace}
-use Rattle.listing.specs.Reader.{wholeAt}
+use Rattle.claims.specs.Claims.{Course, goes, stops, orStop, onward, stands, byteAt, trueMismatch, pairsFrom}
 use Rattle.verify.specs.declared.check.Checked.{Checked}
 use Rattle.verify.specs.declared.check.Checked.the-variants.{Kept, Refused}
 
--- where the check stands: every record so far is right, and the next one begins at a place; or at the first bad record
-pub data Course : Type 0 where
-  goes : ℕ → Course
-  stops : Refusal → Course
-
--- it stops unless the test passes, and otherwise goes on with what comes after
-abbrev pub orStop : Bool → Refusal → Course → Course
-orStop ok why after = pick ok after (stops why)
-
--- what comes after, from the place that was reached
-abbrev pub onward : Course → (ℕ → Course) → Course
-onward (goes at) after = after at
-onward (stops why) after = stops why
-
 -- ---- one record
-
--- a whole record of that kind stands at the place, as the reader has it
-unfoldable pub stands : List ℕ → ℕ → ℕ → Bool
-stands listing kind at = both (eqb (getD listing at 0) kind) (wholeAt listing at)
-
--- byte i of what stands at a place
-abbrev pub byteAt : List ℕ → ℕ → ℕ → ℕ
-byteAt listing at i = getD listing (at + i) 0
 
 -- it names the window that is due
 unfoldable pub isDue : WindowPlace → List ℕ → ℕ → Bool
 isDue v listing at = both (eqb (byteAt listing at 1) (v .row)) (eqb (byteAt listing at 2) (v .column))
-
--- the window has the symbol b in every cell where the pattern has a
-unfoldable pub hasImage : (ℕ → ℕ) → (ℕ → ℕ) → ℕ → ℕ → ℕ → Bool
-hasImage m w n a b = every (λ p. pick (eqb (m p) a) (eqb (w p) b) true) n
-
--- a pair is right: its pattern symbol is the next one, a, and its text symbol stands in all of a's cells and was not given before for this window
-unfoldable pub rightPair : (ℕ → ℕ) → (ℕ → ℕ) → ℕ → List ℕ → ℕ → List ℕ → ℕ → Bool
-rightPair m w n listing a given at =
-    both (eqb (byteAt listing at 1) a) (both (hasImage m w n a (byteAt listing at 2)) (not (contains given (byteAt listing at 2))))
-
--- a cell lies in the pattern
-abbrev pub cellInside : ℕ → ℕ → ℕ → ℕ → Bool
-cellInside height width row column = both (ltb row height) (ltb column width)
-
--- two positions are alike on that side only: in the pattern (true), or in the window (false)
-abbrev pub alikeOnly : Bool → (ℕ → ℕ) → (ℕ → ℕ) → ℕ → ℕ → Bool
-alikeOnly true m w q p = both (eqb (m q) (m p)) (not (eqb (w q) (w p)))
-alikeOnly false m w q p = both (eqb (w q) (w p)) (not (eqb (m q) (m p)))
-
--- two cells (i, j) and (k, l) lie in the pattern, the earlier first, and are alike on that side only
-unfoldable pub trueMismatch : Bool → (ℕ → ℕ) → (ℕ → ℕ) → ℕ → ℕ → ℕ → ℕ → ℕ → ℕ → Bool
-trueMismatch side m w height width i j k l =
-    both (cellInside height width i j) (both (cellInside height width k l)
-    (both (ltb (i * width + j) (k * width + l)) (alikeOnly side m w (i * width + j) (k * width + l))))
 
 -- a mismatch is right: it names the window that is due, and its cells spoil it as the kind says
 unfoldable pub rightMismatch : Bool → List ℕ → List ℕ → WindowPlace → List ℕ → ℕ → Bool
@@ -88,13 +40,6 @@ rightClosing listing found refused at =
     both (eqb (byteAt listing at 1 * 256 + byteAt listing at 2) found) (eqb (byteAt listing at 3 * 256 + byteAt listing at 4) refused)
 
 -- ---- the walk: 6 where another kind or no whole record stands, 7 where a record is not right
-
--- the pairs of a found window, one for each of these symbols; the window's symbols of the pairs before them are given
-unfoldable pub pairsFrom : (ℕ → ℕ) → (ℕ → ℕ) → ℕ → List ℕ → List ℕ → List ℕ → ℕ → Course
-pairsFrom m w n listing [] given at = goes at
-pairsFrom m w n listing (a ∷ symbols) given at =
-    orStop (stands listing 2 at) (ListingForm at)
-    (orStop (rightPair m w n listing a given at) (ListingFalse at) (pairsFrom m w n listing symbols (byteAt listing at 2 ∷ given) (at + 3)))
 
 -- the records of a window: found and its pairs, or a mismatch of one kind or the other
 unfoldable pub entryFrom : List ℕ → List ℕ → WindowPlace → List ℕ → ℕ → Course

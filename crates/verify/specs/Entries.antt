@@ -12,8 +12,8 @@ use lib.ListN.{length, getD}
 use mathlib.Core.Logic.{_⊎_, inl, inr}
 use Rattle.theory.specs.Test.{both, true-or-false, eq-tested, tested-same, tested-iff, says-true}
 use Rattle.sets.specs.Symbols.{symbolsOf}
-use Rattle.grid.specs.declared.refusals.Refusal.{Refusal}
-use Rattle.grid.specs.declared.refusals.Refusal.the-variants.{ListingForm, ListingFalse}
+use Rattle.shapes.specs.declared.refusals.Refusal.{Refusal}
+use Rattle.shapes.specs.declared.refusals.Refusal.the-variants.{ListingForm, ListingFalse}
 use Rattle.matching.specs.Compare.{patternAt, windowOf, cellsOf}
 use Rattle.matching.specs.declared.compare.WindowPlace.{WindowPlace}
 use Rattle.listing.specs.Records.{bytesOf}
@@ -24,9 +24,10 @@ use Rattle.listing.specs.declared.records.Record.{Record}
 use Rattle.listing.specs.declared.records.Record.the-variants.{Found, Pair, AlikeInPattern, AlikeInWindow, Closing}
 use Rattle.listing.specs.declared.reader.Cursor.{Cursor}
 use Rattle.listing.specs.declared.reader.Read.the-variants.{Whole, Refused}
-use Rattle.verify.specs.Check.{Course, goes, stops, orStop, byteAt, stands, isDue, trueMismatch, rightMismatch, rightClosing, pairsFrom, entryFrom, closingFrom}
-use Rattle.verify.specs.Passages.{goes-stops, MismatchAt}
-use Rattle.verify.specs.Standing.{stands-tested, refused-stands, whole-byte, whole-stands, whole-other, whole-next}
+use Rattle.claims.specs.Claims.{Course, goes, stops, orStop, byteAt, stands, trueMismatch, pairsFrom}
+use Rattle.verify.specs.Check.{isDue, rightMismatch, rightClosing, entryFrom, closingFrom}
+use Rattle.claims.specs.Passages.{goes-stops, MismatchAt}
+use Rattle.claims.specs.Standing.{stands-tested, refused-stands, whole-byte, whole-stands, whole-other, whole-next}
 
 -- ---- a mismatch
 

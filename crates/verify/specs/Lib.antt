@@ -1,11 +1,6 @@
 pub mod Check
 pub mod Rules
-pub mod Passages
-pub mod Standing
 pub mod Bytes
-pub mod Carries
-pub mod Pairs
-pub mod Mismatches
 pub mod Entries
 pub mod Windows
 pub mod Answers

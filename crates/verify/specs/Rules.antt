@@ -13,7 +13,7 @@ use lib.ListN.{length}
 use Rattle.theory.specs.Join.{joined}
 use Rattle.theory.specs.Count.{count}
 use Rattle.theory.specs.Match.{Maps, Mismatch, Answer, matched, mismatched, isMatch}
-use Rattle.grid.specs.Shapes.{windows, Shaped}
+use Rattle.shapes.specs.Shapes.{windows, Shaped}
 use Rattle.sets.specs.Symbols.{symbolsOf}
 use Rattle.matching.specs.Compare.{patternAt, windowOf, cellsOf}
 use Rattle.matching.specs.Windows.{windowPlace}

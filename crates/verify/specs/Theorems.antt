@@ -13,12 +13,13 @@ use borrow.Author.Tests.{eq-eqb}
 use Rattle.theory.specs.Test.{pick, both, is-true, both-tested}
 use Rattle.theory.specs.Count.{count, count-ext}
 use Rattle.theory.specs.Match.{isMatch}
-use Rattle.grid.specs.Refusals.{numberOf, number-positive}
-use Rattle.grid.specs.Shapes.{goodCells, good-cells, windows, Shaped, shape-passes, shape-then-zero}
+use Rattle.shapes.specs.Refusals.{numberOf, number-positive}
+use Rattle.shapes.specs.Shapes.{goodCells, good-cells, windows, Shaped, shape-passes, shape-then-zero}
 use Rattle.listing.specs.Records.{bytesOf}
 use Rattle.listing.specs.Entries.{bytesAll, bytes-append, bytes-one}
 use Rattle.listing.specs.declared.records.Record.the-variants.{Closing}
-use Rattle.verify.specs.Check.{Course, goes, stops, windowsTo, standsFound, foundTo, refusedTo, listingCourse, checkedNumber, checkedValues, checkedOf, listingAnswer, shapeNumber, checkNumber, checkValues, Checks}
+use Rattle.claims.specs.Claims.{Course, goes, stops}
+use Rattle.verify.specs.Check.{windowsTo, standsFound, foundTo, refusedTo, listingCourse, checkedNumber, checkedValues, checkedOf, listingAnswer, shapeNumber, checkNumber, checkValues, Checks}
 use Rattle.verify.specs.Answers.{check-shape}
 use Rattle.verify.specs.Bytes.{Holds, holds-all, holds-both, holds-first, holds-second, holds-whole}
 use Rattle.verify.specs.Rules.{Entries, recordsTo, Keeps, KeepsRules}

@@ -13,11 +13,12 @@ use Rattle.theory.specs.Test.{pick}
 use Rattle.theory.specs.Count.{count, count-le}
 use Rattle.grid.specs.Counts.{ShapeOf, across, down}
 use Rattle.grid.specs.declared.counts.Shape.{Shape}
-use Rattle.grid.specs.declared.refusals.Refusal.{Refusal}
+use Rattle.shapes.specs.declared.refusals.Refusal.{Refusal}
 use Rattle.matching.specs.Compare.{Placed, cellsOf}
 use Rattle.matching.specs.Windows.{windowPlace, placed-window}
 use Rattle.matching.specs.declared.compare.WindowPlace.{WindowPlace}
-use Rattle.verify.specs.Check.{Course, goes, stops, entryFrom, windowsTo, standsFound, foundTo}
+use Rattle.claims.specs.Claims.{Course, goes, stops}
+use Rattle.verify.specs.Check.{entryFrom, windowsTo, standsFound, foundTo}
 use Rattle.verify.specs.Entries.{goes-found}
 use Rattle.verify.specs.declared.windows.Walked.{Walked}
 use Rattle.verify.specs.declared.windows.Walked.the-variants.{Passed, Stopped}

@@ -4,17 +4,17 @@ ghost use Prim.Native.Nat.{_*_};
 ghost use lib.ListN.{length};
 ghost use Rattle.grid.specs.Counts.{ShapeOf};
 ghost use Rattle.verify.specs.Check.{closingFrom, listingAnswer, Checks};
-ghost use Rattle.verify.specs.Passages.{courseOf};
-use crate::passages::Passage;
+ghost use Rattle.claims.specs.Passages.{courseOf};
 use crate::windows::Walked;
 use crate::windows::read_windows;
+use claims::passages::Passage;
 use grid::counts::Shape;
-use grid::refusals::Outcome;
-use grid::refusals::Refusal;
-use grid::shapes::pattern_outcome;
 use listing::reader::Cursor;
 use listing::reader::Read;
 use listing::records::Record;
+use shapes::refusals::Outcome;
+use shapes::refusals::Refusal;
+use shapes::shapes::pattern_outcome;
 
 // What the check answers.
 pub enum Checked {

@@ -7,18 +7,19 @@ ghost use Rattle.theory.specs.Older.{Older};
 ghost use Rattle.theory.specs.Test.{both};
 ghost use Rattle.sets.specs.Symbols.{symbolsOf};
 ghost use Rattle.matching.specs.Compare.{cellsOf, Placed};
-ghost use Rattle.grid.specs.declared.refusals.Refusal.the-variants.{ListingFalse};
-ghost use Rattle.verify.specs.Check.{goes, orStop, rightMismatch, entryFrom};
-ghost use Rattle.verify.specs.Passages.{courseOf, MismatchAt};
-use crate::mismatches::true_mismatch;
-use crate::pairs::found_pairs;
-use crate::passages::Passage;
-use grid::refusals::Refusal;
+ghost use Rattle.shapes.specs.declared.refusals.Refusal.the-variants.{ListingFalse};
+ghost use Rattle.claims.specs.Claims.{goes, orStop};
+ghost use Rattle.verify.specs.Check.{rightMismatch, entryFrom};
+ghost use Rattle.claims.specs.Passages.{courseOf, MismatchAt};
+use claims::mismatches::true_mismatch;
+use claims::pairs::found_pairs;
+use claims::passages::Passage;
 use listing::reader::Cursor;
 use listing::reader::Read;
 use listing::records::Record;
 use listing::records::Spoiled;
 use matching::compare::WindowPlace;
+use shapes::refusals::Refusal;
 
 // Whether a record names the window that is due.
 fn is_due(v: WindowPlace, row: u8, column: u8) -> bool

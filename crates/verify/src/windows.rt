@@ -9,13 +9,13 @@ ghost use Rattle.grid.specs.Counts.{ShapeOf};
 ghost use Rattle.sets.specs.Symbols.{symbolsOf};
 ghost use Rattle.verify.specs.Windows.{WindowsWalked};
 use crate::entries::read_entry;
-use crate::passages::Passage;
+use claims::passages::Passage;
 use grid::counts::Shape;
-use grid::refusals::Refusal;
 use matching::compare::WindowPlace;
 use matching::windows::next_window;
 use sets::symbols::list_symbols;
 use sets::symbols::symbols_of;
+use shapes::refusals::Refusal;
 
 // Where the windows end, and how many of them stand as found; or the first bad record.
 pub enum Walked {

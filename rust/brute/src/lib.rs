@@ -8,12 +8,14 @@ mod bijections;
 mod check;
 mod compare;
 mod listing;
+mod program;
 mod search;
 
 pub use bijections::{compose, invert, pair, Columns};
 pub use check::check;
 pub use compare::one_window;
 pub use listing::read;
+pub use program::program;
 pub use search::{search, Buffers};
 
 use std::collections::BTreeSet;

@@ -13,8 +13,8 @@ use lib.Seq.{getD-set-same, getD-set-other}
 use borrow.Author.Tests.{ne-eqb}
 use Rattle.theory.specs.Test.{pick}
 use Rattle.theory.specs.Store.{stored, storedRows, stored-none, stored-more, rows-more, rows-all, Covers}
-use Rattle.grid.specs.Shapes.{product-le}
-use Rattle.grid.specs.Windows.{rowCells, row-inside, length-row, row-at, window-strip}
+use Rattle.shapes.specs.Shapes.{product-le}
+use Rattle.shapes.specs.Windows.{rowCells, row-inside, length-row, row-at, window-strip}
 use Rattle.grid.specs.Strips.{link, linksNumber, linksAfter, links-passed, links-after, stripSymbols, StripOf, Latest, never, latest, LastPlaces, RowAt, Linkable, LinkedRow}
 use Rattle.grid.specs.Strips.Links.{none, back, linked-is}
 use Rattle.grid.specs.declared.strips.Strip.{Strip}

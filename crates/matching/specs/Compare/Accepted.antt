@@ -9,8 +9,8 @@ use native.Mathlib.Nat.{mul-le-mul-right}
 use native.Mathlib.Omega.{arith}
 use lib.ListN.{length}
 use Rattle.theory.specs.Test.{both, Tested, both-tested, says-true, is-true}
-use Rattle.grid.specs.Refusals.{unless}
-use Rattle.grid.specs.Shapes.{shapeThen, goodCells, good-cells, cornerInside, corner-inside, Sides, Fits, Corner, shape-number-le, shape-refused, shape-then-zero, shape-passed, shape-passes, one-passed, product-le}
+use Rattle.shapes.specs.Refusals.{unless}
+use Rattle.shapes.specs.Shapes.{shapeThen, goodCells, good-cells, cornerInside, corner-inside, Sides, Fits, Corner, shape-number-le, shape-refused, shape-then-zero, shape-passed, shape-passes, one-passed, product-le}
 use Rattle.matching.specs.Compare.{windowNumber, Placed}
 
 module _ (cells rows columns patternCells height width row column : ℕ) where

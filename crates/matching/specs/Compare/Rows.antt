@@ -9,7 +9,7 @@ use native.Mathlib.Numerals.{add-one}
 use native.Mathlib.Omega.{arith}
 use lib.ListN.{length, getD, take, drop, length-take, length-drop}
 use lib.Seq.{getD-take, getD-drop}
-use Rattle.grid.specs.Windows.{window-cell}
+use Rattle.shapes.specs.Windows.{window-cell}
 use Rattle.matching.specs.Compare.{patternAt, windowOf, cellsOf, Placed}
 use Rattle.matching.specs.declared.compare.WindowPlace.{WindowPlace}
 

@@ -7,14 +7,14 @@ use native.Mathlib.Omega.{arith}
 use lib.Dec.{eqb}
 use lib.ListN.{length}
 use Rattle.theory.specs.Match.{earliest, firstEnd, Answer, matched, mismatched, mismatchEnding, answerOf, column}
-use Rattle.grid.specs.Refusals.{numberOf, number-positive, no-values}
-use Rattle.grid.specs.Windows.{windowAt}
-use Rattle.grid.specs.declared.refusals.Refusal.{Refusal}
-use Rattle.matching.specs.Bijections.{emptyBijection}
+use Rattle.shapes.specs.Refusals.{numberOf, number-positive, no-values}
+use Rattle.shapes.specs.Windows.{windowAt}
+use Rattle.shapes.specs.declared.refusals.Refusal.{Refusal}
+use Rattle.mapping.specs.Bijections.{emptyBijection}
 use Rattle.matching.specs.Compare.{patternAt, verdictNumber, verdictValues, verdictOf, bijectionOf, windowNumber, valuesAfter, bijectionBeside, Answers}
 use Rattle.matching.specs.Compare.Accepted.{window-number-le}
 use Rattle.matching.specs.Compare.Scans.{end-le, answer-mismatch, answer-match}
-use Rattle.matching.specs.declared.bijections.Bijection.{Bijection}
+use Rattle.mapping.specs.declared.bijections.Bijection.{Bijection}
 use Rattle.matching.specs.declared.compare.Verdict.{Verdict}
 use Rattle.matching.specs.declared.compare.Verdict.the-variants.{Match, Mismatch, Refused}
 use Rattle.matching.specs.declared.compare.WindowAnswer.{WindowAnswer}

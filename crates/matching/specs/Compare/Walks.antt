@@ -6,7 +6,7 @@ use Prim.Native.Nat.{ℕ, suc, _+_, _-_, _*_, _/_, _%_, _≤_, _<_}
 use native.Mathlib.Nat.{add-zero, suc-mul, mul-le-mul-right, le-mul-of-pos-right, mul-le-mul, mod-lt, div-lt-iff-lt-mul, div-add-mod', mul-add-div-right, mul-add-mod-self-right, div-eq-of-lt, mod-eq-of-lt}
 use native.Mathlib.Omega.{arith}
 use lib.ListN.{length, getD}
-use Rattle.grid.specs.Windows.{window-at}
+use Rattle.shapes.specs.Windows.{window-at}
 use Rattle.matching.specs.Compare.{windowOf, cellsOf, Placed, Walkable, WalkAt}
 use Rattle.matching.specs.declared.compare.WindowPlace.{WindowPlace}
 use Rattle.matching.specs.declared.compare.Walk.{Walk}

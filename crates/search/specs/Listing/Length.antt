@@ -17,7 +17,7 @@ use Rattle.grid.specs.Distinct.{contains, distinct}
 use Rattle.grid.specs.Distinct.Sets.{distinct-count}
 use Rattle.listing.specs.Entries.{entryOf, bytesAll, bytes-none, bytes-append, length-found, length-refused}
 use Rattle.listing.specs.declared.records.Record.the-variants.{Closing}
-use Rattle.search.specs.Flags.{answerAt}
+use Rattle.flags.specs.Flags.{answerAt}
 use Rattle.search.specs.Listing.{entryOfWindow, foundIn, refusedIn, searchRecords, searchListing, neededLength}
 
 -- a pattern of bytes has as many symbols as it has different ones

@@ -1,6 +1,6 @@
 -- The scan of a window on lent columns, row by row: where a row ends, and what all rows say of the window's first end.
 -- Assumes nothing.
-use mathlib.Core.Path.{_≡_, sym, _∙_}
+use mathlib.Core.Path.{_≡_, refl, sym, _∙_}
 use mathlib.Core.Bool.{Bool, true, false}
 use mathlib.Core.List.{List}
 use Prim.Native.Nat.{ℕ, _+_, _*_, _≤_, _<_}
@@ -9,13 +9,13 @@ use native.Mathlib.Omega.{arith}
 use lib.ListN.{length, getD, take, drop}
 use borrow.Author.Tests.{not-false}
 use Rattle.theory.specs.Match.{ends, firstEnd}
-use Rattle.grid.specs.Windows.{window-at}
+use Rattle.shapes.specs.Windows.{window-at}
 use Rattle.matching.specs.Compare.{patternAt, windowOf, cellsOf, Placed}
 use Rattle.matching.specs.Compare.Rows.{RowAt, row-first, rows-behind, row-below, cells-fit, length-row, row-pattern, row-window}
 use Rattle.matching.specs.Compare.Scans.{Passed, end-found, end-none}
 use Rattle.matching.specs.declared.compare.WindowPlace.{WindowPlace}
 use Rattle.theory.specs.Older.{Older, older-next}
-use Rattle.search.specs.Listing.Columns.{imagesFrom, lent-none, Meets, PairsUp}
+use Rattle.search.specs.Listing.Columns.{imagesFrom, lent-none, Meets, PairsUp, pairs-already}
 
 -- ---- one row
 
@@ -83,6 +83,15 @@ module _ (base : ℕ) (row cells f₀ g₀ : List ℕ) where
       where
         not-all : j ≡ length row → ⊥
         not-all d = omega arith
+
+  -- two cells more that have their pairs already
+  pub row-two : (j : ℕ) (f g : List ℕ) → j + 1 < length row → PassedRow base row cells f₀ g₀ j f g
+      → (getD f (getD cells j 0) 0 ≡ base + getD row j 0) × (getD f (getD cells (j + 1) 0) 0 ≡ base + getD row (j + 1) 0)
+      → PassedRow base row cells f₀ g₀ (j + 2) f g
+  row-two j f g inside here e = rw (add-assoc j 1 1) at (one (j + 1) inside (one j (omega arith) here (e .0)) (e .1))
+    where
+      one : (i : ℕ) → i < length row → PassedRow base row cells f₀ g₀ i f g → getD f (getD cells i 0) 0 ≡ base + getD row i 0 → PassedRow base row cells f₀ g₀ (i + 1) f g
+      one i h p q = row-more i _ _ f g h p refl refl f g true (pairs-already base _ _ f g (p .forward-older) (p .backward-older) q) refl
 
   pub row-all : (j : ℕ) (f g : List ℕ) → length row ≤ j → PassedRow base row cells f₀ g₀ j f g → EndsRow base row cells f₀ g₀ j f g
   row-all j f g h here =

@@ -12,11 +12,11 @@ use borrow.Author.Tests.{eq-eqb, ne-eqb}
 use Rattle.theory.specs.Test.{pick}
 use Rattle.theory.specs.Count.{count, count-ext, count-le, count-not}
 use Rattle.theory.specs.Match.{isMatch}
-use Rattle.grid.specs.Shapes.{windows}
+use Rattle.shapes.specs.Shapes.{windows}
 use Rattle.grid.specs.Counts.{across, down}
 use Rattle.grid.specs.declared.counts.Shape.{Shape}
-use Rattle.search.specs.Flags.{windowFlag, answerAt}
-use Rattle.search.specs.Flags.Strips.{flagOf}
+use Rattle.flags.specs.Flags.{windowFlag, answerAt}
+use Rattle.flags.specs.Flags.Strips.{flagOf}
 use Rattle.search.specs.Listing.{foundIn, refusedIn}
 
 -- how many of the first n flags are 1

@@ -7,8 +7,8 @@ use native.Mathlib.Nat.{zero-add}
 use native.Mathlib.Omega.{arith}
 use lib.ListN.{length}
 use Rattle.theory.specs.Join.{joined}
-use Rattle.grid.specs.Shapes.{windows, product-le}
-use Rattle.grid.specs.Refusals.{bufferAfter}
+use Rattle.shapes.specs.Shapes.{windows, product-le}
+use Rattle.shapes.specs.Refusals.{bufferAfter}
 use Rattle.grid.specs.declared.counts.Shape.{Shape}
 use Rattle.listing.specs.Records.{bytesOf, written}
 use Rattle.listing.specs.Pieces.{first-room, second-room, both-written}

@@ -20,8 +20,8 @@ use Rattle.listing.specs.Records.{written}
 use Rattle.listing.specs.Writing.{length-written}
 use Rattle.listing.specs.Pieces.{written-none, both-written}
 use Rattle.listing.specs.Entries.{bytesAll, bytes-none, bytes-append}
-use Rattle.search.specs.Flags.{windowFlag}
-use Rattle.search.specs.Flags.Strips.{flagOf}
+use Rattle.flags.specs.Flags.{windowFlag}
+use Rattle.flags.specs.Flags.Strips.{flagOf}
 use Rattle.search.specs.Listing.{entryAt, entryOfWindow}
 use Rattle.search.specs.Listing.Entries.{Answered}
 

@@ -10,10 +10,10 @@ use lib.Dec.{leb}
 use lib.ListN.{length}
 use borrow.Author.Tests.{le-leb, lt-leb}
 use Rattle.theory.specs.Test.{both, Tested, both-tested, le-tested, says-true, is-true}
-use Rattle.grid.specs.Refusals.{unless}
-use Rattle.grid.specs.Shapes.{shapeThen, goodCells, good-cells, windows, shape-refused, shape-then-zero, shape-passed, shape-passes, one-passed}
+use Rattle.shapes.specs.Refusals.{unless}
+use Rattle.shapes.specs.Shapes.{shapeThen, goodCells, good-cells, windows, shape-refused, shape-then-zero, shape-passed, shape-passes, one-passed}
 use Rattle.grid.specs.declared.counts.Shape.{Shape}
-use Rattle.search.specs.Flags.{Room}
+use Rattle.flags.specs.Flags.{Room}
 use Rattle.search.specs.Listing.{neededLength}
 use Rattle.search.specs.Search.{roomThen, roomNumber, listingNumber, searchNumber}
 

@@ -10,12 +10,12 @@ use lib.Dec.{leb}
 use lib.ListN.{length}
 use Rattle.theory.specs.Test.{both}
 use Rattle.theory.specs.Table.{table}
-use Rattle.grid.specs.Refusals.{numberOf, valuesOf, number-positive, unless, bufferAfter, buffer-refused}
-use Rattle.grid.specs.Shapes.{shapeThen, goodCells, windows, shape-number-le}
+use Rattle.shapes.specs.Refusals.{numberOf, valuesOf, number-positive, unless, bufferAfter, buffer-refused}
+use Rattle.shapes.specs.Shapes.{shapeThen, goodCells, windows, shape-number-le}
 use Rattle.grid.specs.Counts.{countOf}
-use Rattle.grid.specs.declared.refusals.Refusal.{Refusal}
-use Rattle.grid.specs.declared.refusals.Refusal.the-variants.{SizesMissing, SideRange, CellCount, TooLarge, CornerOutside, ListingForm, ListingFalse, TooManyCells, LinksBufferShort, WindowBufferShort, ListingBufferShort, HasOtherImage, HasOtherPreimage, ColumnsDisagree, CursorSpent}
-use Rattle.search.specs.Flags.Strips.{flagOf}
+use Rattle.shapes.specs.declared.refusals.Refusal.{Refusal}
+use Rattle.shapes.specs.declared.refusals.Refusal.the-variants.{SizesMissing, SideRange, CellCount, TooLarge, CornerOutside, ListingForm, ListingFalse, TooManyCells, LinksBufferShort, WindowBufferShort, ListingBufferShort, HasOtherImage, HasOtherPreimage, ColumnsDisagree, CursorSpent}
+use Rattle.flags.specs.Flags.Strips.{flagOf}
 use Rattle.search.specs.Listing.{foundIn, refusedIn, neededLength, searchListing}
 use Rattle.search.specs.Search.{roomNumber, listingNumber, searchNumber, valuesBeside, AnswerIs, Searches, linksAfterSearch, countsAfterSearch, flagsAfterSearch, listingAfterSearch}
 use Rattle.search.specs.Search.Accepted.{sidesOf, room-after-shape, room-by-shape, listing-refused, listing-accepted, search-refused, search-after}

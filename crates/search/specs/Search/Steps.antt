@@ -6,12 +6,12 @@ use Prim.Native.Nat.{ℕ, _*_, _≤_, _<_}
 use native.Mathlib.Omega.{arith}
 use lib.ListN.{length, drop, getD, List·getD-append, length-append, length-drop}
 use Rattle.theory.specs.Table.{table, length-table, getD-table}
-use Rattle.grid.specs.Refusals.{bufferAfter}
+use Rattle.shapes.specs.Refusals.{bufferAfter}
 use Rattle.grid.specs.Counts.{across, down, countOf, countsAfter, counts-accepted, counts-after}
 use Rattle.grid.specs.Distinct.{distinct}
 use Rattle.grid.specs.declared.counts.Shape.{Shape}
-use Rattle.search.specs.Flags.Strips.{flagOf}
-use Rattle.search.specs.Flags.{Room}
+use Rattle.flags.specs.Flags.Strips.{flagOf}
+use Rattle.flags.specs.Flags.{Room}
 use Rattle.search.specs.Listing.{foundIn, refusedIn, listingLength, neededLength, searchListing}
 use Rattle.search.specs.Listing.Totals.{ones, others, ones-found, others-refused}
 use Rattle.search.specs.Listing.Length.{length-listing}

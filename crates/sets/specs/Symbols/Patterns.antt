@@ -11,7 +11,7 @@ use lib.ListN.{length, getD, take}
 use lib.Seq.{take-suc, take-all}
 use Rattle.theory.specs.Test.{pick}
 use Rattle.theory.specs.Count.{members, count-ext, members-ext}
-use Rattle.grid.specs.Windows.{windowCells, cells-byte}
+use Rattle.shapes.specs.Windows.{windowCells, cells-byte}
 use Rattle.grid.specs.Distinct.{contains, distinct}
 use Rattle.grid.specs.Distinct.Sets.{contains-none, contains-end, distinct-count}
 use Rattle.sets.specs.declared.symbols.Symbols.{Symbols}

@@ -19,13 +19,14 @@ use Rattle.listing.specs.Reader.{bytesFrom}
 use Rattle.listing.specs.Reading.{size-found, size-alike-in-pattern, size-alike-in-window}
 use Rattle.listing.specs.Entries.{bytesAll, bytes-cons, bytes-one, pairsOf, entry-found, entry-refused, length-found, length-refused, spoiledAt, mismatchRecord}
 use Rattle.listing.specs.declared.records.Record.the-variants.{Found}
-use Rattle.grid.specs.declared.refusals.Refusal.the-variants.{ListingForm, ListingFalse}
-use Rattle.verify.specs.Check.{Course, goes, stops, orStop, byteAt, stands, isDue, rightMismatch, pairsFrom, entryFrom}
+use Rattle.shapes.specs.declared.refusals.Refusal.the-variants.{ListingForm, ListingFalse}
+use Rattle.claims.specs.Claims.{Course, goes, stops, orStop, byteAt, stands, pairsFrom}
+use Rattle.verify.specs.Check.{isDue, rightMismatch, entryFrom}
 use Rattle.verify.specs.Bytes.{Holds, holds-both, holds-first, holds-second, holds-byte, holds-stands, stands-holds, stands-other}
 use Rattle.verify.specs.Rules.{TrueOf, recordsAt}
 use Rattle.verify.specs.Rules.Pairs.{goes-on, goes-to, imageIn, PairsRight, pairs-sound, pairs-complete}
 use Rattle.verify.specs.Rules.Mismatches.{due-tested, Spoils, spoils-tested, cells-bytes, spoils-at}
-use Rattle.verify.specs.Mismatches.{cell-position}
+use Rattle.claims.specs.Mismatches.{cell-position}
 
 -- the kind of a mismatch
 abbrev kindOf : Bool → ℕ

@@ -8,11 +8,12 @@ use native.Mathlib.Nat.{mod-lt, div-lt-iff-lt-mul, div-add-mod'}
 use native.Mathlib.Omega.{arith}
 use Rattle.theory.specs.Test.{Tested, tested-iff, eq-tested, lt-tested, both-tested, not-tested}
 use Rattle.theory.specs.Match.{AlikeOnly, Mismatch}
-use Rattle.grid.specs.Windows.{corner-row, corner-column}
+use Rattle.shapes.specs.Windows.{corner-row, corner-column}
 use Rattle.matching.specs.declared.compare.WindowPlace.{WindowPlace}
 use Rattle.listing.specs.Records.{spoiledBytes}
 use Rattle.listing.specs.Entries.{spoiledAt}
-use Rattle.verify.specs.Check.{byteAt, isDue, alikeOnly, trueMismatch}
+use Rattle.claims.specs.Claims.{byteAt, alikeOnly, trueMismatch}
+use Rattle.verify.specs.Check.{isDue}
 
 -- ---- what the tests say
 

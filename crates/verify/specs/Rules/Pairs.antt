@@ -14,15 +14,16 @@ use Rattle.theory.specs.Test.{pick, Tested, holds, fails, true-false, says-true
 use Rattle.theory.specs.Count.{Rising}
 use Rattle.grid.specs.Distinct.{contains}
 use Rattle.grid.specs.Distinct.Sets.{contains-none, contains-cons, contains-tested}
-use Rattle.grid.specs.declared.refusals.Refusal.{Refusal}
+use Rattle.shapes.specs.declared.refusals.Refusal.{Refusal}
 use Rattle.listing.specs.Records.{bytesOf}
 use Rattle.listing.specs.Reading.{size-pair}
 use Rattle.listing.specs.Entries.{bytesAll, bytes-none, bytes-cons, pairsOf, pairs-none, pairs-cons, pairs-ext}
 use Rattle.listing.specs.declared.records.Record.the-variants.{Pair}
-use Rattle.verify.specs.Check.{Course, goes, orStop, placeOf, byteAt, stands, hasImage, rightPair, pairsFrom}
-use Rattle.verify.specs.Passages.{goes-stops}
-use Rattle.verify.specs.Pairs.{has-image-tested}
-use Rattle.verify.specs.Pairs.Reading.{right-tested}
+use Rattle.claims.specs.Claims.{Course, goes, orStop, byteAt, stands, hasImage, rightPair, pairsFrom}
+use Rattle.verify.specs.Check.{placeOf}
+use Rattle.claims.specs.Passages.{goes-stops}
+use Rattle.claims.specs.Pairs.{has-image-tested}
+use Rattle.claims.specs.Pairs.Reading.{right-tested}
 use Rattle.verify.specs.Bytes.{Holds, holds-none, holds-both, holds-first, holds-second, holds-byte, holds-stands, stands-holds}
 
 -- ---- a step of the walk

@@ -21,10 +21,11 @@ use Rattle.listing.specs.Reader.{bytesFrom}
 use Rattle.listing.specs.Reading.{size-closing, two-numbers}
 use Rattle.listing.specs.Entries.{bytesAll, bytes-none, bytes-append}
 use Rattle.listing.specs.declared.records.Record.the-variants.{Closing}
-use Rattle.verify.specs.Check.{Course, goes, stops, onward, byteAt, stands, placeOf, entryFrom, windowsTo, standsFound, rightClosing, closingFrom}
+use Rattle.claims.specs.Claims.{Course, goes, stops, onward, byteAt, stands}
+use Rattle.verify.specs.Check.{placeOf, entryFrom, windowsTo, standsFound, rightClosing, closingFrom}
 use Rattle.verify.specs.Bytes.{Holds, holds-none, holds-both, holds-first, holds-second, holds-byte, holds-stands, stands-holds}
 use Rattle.verify.specs.Rules.{TrueOf, Entries, recordsAt, recordsTo}
-use Rattle.verify.specs.Passages.{goes-stops}
+use Rattle.claims.specs.Passages.{goes-stops}
 use Rattle.verify.specs.Rules.Pairs.{goes-on, goes-to}
 use Rattle.verify.specs.Rules.Entry.{answerRead, imageRead, EntryRight, entry-sound, entry-complete}
 

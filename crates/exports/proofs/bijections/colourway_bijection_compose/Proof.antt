@@ -1,9 +1,9 @@
 -- `compose` fixes the number and the bijection, of the bijections that the columns held; `write_answer` hands both over.
 -- Assumes nothing.
 use mathlib.Core.Path.{_≡_, _∙_, ap}
-use Rattle.matching.specs.Bijections.{composeNumber}
-use Rattle.matching.specs.declared.bijections.Bijection.{Bijection}
-use Rattle.matching.specs.Bijections.{composeAfter}
+use Rattle.mapping.specs.Bijections.{composeNumber}
+use Rattle.mapping.specs.declared.bijections.Bijection.{Bijection}
+use Rattle.mapping.specs.Bijections.{composeAfter}
 use borrow.Author.Needs.{needs}
 use Rattle.exports.proofs.bijections.colourway_bijection_compose.Statement.{statement}
 use Rattle.exports.proofs.bijections.colourway_bijection_compose.Tie as tie

@@ -1,8 +1,8 @@
 -- `invert` fixes the number and the bijection, of the bijection that the columns held; `write_answer` hands both over.
 -- Assumes nothing.
 use mathlib.Core.Path.{_∙_, ap}
-use Rattle.matching.specs.Bijections.{invertNumber}
-use Rattle.matching.specs.Bijections.{invertAfter}
+use Rattle.mapping.specs.Bijections.{invertNumber}
+use Rattle.mapping.specs.Bijections.{invertAfter}
 use borrow.Author.Needs.{needs}
 use Rattle.exports.proofs.bijections.colourway_bijection_invert.Statement.{statement}
 use Rattle.exports.proofs.bijections.colourway_bijection_invert.Tie as tie

@@ -1,9 +1,9 @@
 -- `pair` fixes the number and the bijection, of the bijection that the columns held; `write_answer` hands both over.
 -- Assumes nothing.
 use mathlib.Core.Path.{_∙_, ap}
-use Rattle.matching.specs.Bijections.{pairNumber}
-use Rattle.matching.specs.declared.bijections.Bijection.{Bijection}
-use Rattle.matching.specs.Bijections.{pairAfter}
+use Rattle.mapping.specs.Bijections.{pairNumber}
+use Rattle.mapping.specs.declared.bijections.Bijection.{Bijection}
+use Rattle.mapping.specs.Bijections.{pairAfter}
 use borrow.Author.Needs.{needs}
 use Rattle.exports.proofs.bijections.colourway_bijection_pair.Statement.{statement}
 use Rattle.exports.proofs.bijections.colourway_bijection_pair.Tie as tie

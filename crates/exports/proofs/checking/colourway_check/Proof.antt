@@ -3,7 +3,7 @@
 use mathlib.Core.Path.{_∙_}
 use borrow.Author.Needs.{needs}
 use denote.Ref.{now}
-use Rattle.exports.specs.Checking.{check-totals}
+use Rattle.values.specs.Checking.{check-totals}
 use Rattle.exports.proofs.checking.colourway_check.Statement.{statement}
 use Rattle.exports.proofs.checking.colourway_check.Tie as tie
 

@@ -2,7 +2,7 @@
 -- Assumes nothing.
 use mathlib.Core.Path.{sym, _∙_}
 use denote.Ref.{now}
-use Rattle.exports.specs.Compare.{window-bijection-kept, window-mismatch-kept, window-bijection-new, window-mismatch-new}
+use Rattle.values.specs.Compare.{window-bijection-kept, window-mismatch-kept, window-bijection-new, window-mismatch-new}
 use borrow.Author.Needs.{needs}
 use Rattle.exports.proofs.compare.colourway_one_window.Statement.{statement}
 use Rattle.exports.proofs.compare.colourway_one_window.Tie as tie

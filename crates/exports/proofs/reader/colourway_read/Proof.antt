@@ -5,7 +5,7 @@ use borrow.Author.Needs.{needs}
 use denote.Ref.{now}
 use Rattle.listing.specs.Reader.{readNumber}
 use Rattle.listing.specs.declared.reader.Read.{Read}
-use Rattle.exports.specs.Reader.{fieldsAfter, nextAfter}
+use Rattle.values.specs.Reader.{fieldsAfter, nextAfter}
 use Rattle.exports.proofs.reader.colourway_read.Statement.{statement}
 use Rattle.exports.proofs.reader.colourway_read.Tie as tie
 

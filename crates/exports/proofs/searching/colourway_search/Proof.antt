@@ -3,7 +3,7 @@
 use mathlib.Core.Path.{_∙_}
 use borrow.Author.Needs.{needs}
 use denote.Ref.{now}
-use Rattle.exports.specs.Searching.{answer-totals}
+use Rattle.values.specs.Searching.{answer-totals}
 use Rattle.exports.proofs.searching.colourway_search.Statement.{statement}
 use Rattle.exports.proofs.searching.colourway_search.Tie as tie
 

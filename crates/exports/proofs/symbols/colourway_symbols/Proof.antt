@@ -1,7 +1,7 @@
 -- The words are those of the set that `symbols_of` answers.
 -- Assumes nothing.
 use mathlib.Core.Path.{_∙_, ap}
-use Rattle.exports.specs.Symbols.{wordsOf}
+use Rattle.values.specs.Symbols.{wordsOf}
 use borrow.Author.Needs.{needs}
 use Rattle.exports.proofs.symbols.colourway_symbols.Statement.{statement}
 use Rattle.exports.proofs.symbols.colourway_symbols.Tie as tie

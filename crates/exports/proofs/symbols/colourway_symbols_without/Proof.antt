@@ -3,7 +3,7 @@
 use mathlib.Core.Path.{_∙_, ap}
 use Rattle.sets.specs.Symbols.{withoutSymbol}
 use Rattle.sets.specs.declared.symbols.Symbols.{Symbols}
-use Rattle.exports.specs.Symbols.{wordsOf}
+use Rattle.values.specs.Symbols.{wordsOf}
 use borrow.Author.Needs.{needs}
 use Rattle.exports.proofs.symbols.colourway_symbols_without.Statement.{statement}
 use Rattle.exports.proofs.symbols.colourway_symbols_without.Tie as tie

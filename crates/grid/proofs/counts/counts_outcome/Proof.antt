@@ -4,8 +4,8 @@ use mathlib.Core.Path.{_≡_, sym, ap, _∙_}
 use native.Mathlib.Omega.{arith}
 use mathlib.Core.Bool.{Bool}
 use Prim.Native.Nat.{_*_, _≤_}
-use Rattle.grid.specs.Shapes.{Shaped, shapeThen, goodCells, windows, text-passed, product-le}
-use Rattle.grid.specs.Refusals.{outcomeNumber, refused-positive, accepted-zero}
+use Rattle.shapes.specs.Shapes.{Shaped, shapeThen, goodCells, windows, text-passed, product-le}
+use Rattle.shapes.specs.Refusals.{outcomeNumber, refused-positive, accepted-zero}
 use Rattle.grid.specs.Counts.{counts-shape-refused, counts-room-refused, counts-accepted}
 use borrow.Author.Needs.{needs}
 use Rattle.grid.proofs.counts.counts_outcome.Statement.{statement}

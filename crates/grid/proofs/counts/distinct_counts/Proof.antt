@@ -4,7 +4,7 @@ use mathlib.Core.Path.{_≡_, sym, _∙_, subst}
 use Prim.Native.Nat.{ℕ, _<_}
 use denote.Ref.{now}
 use lib.ListN.{length}
-use Rattle.grid.specs.Refusals.{refused-positive, accepted-zero}
+use Rattle.shapes.specs.Refusals.{refused-positive, accepted-zero}
 use Rattle.grid.specs.Counts.{countsNumber, counts-kept, counts-passed, counts-written}
 use borrow.Author.Needs.{needs}
 use Rattle.grid.proofs.counts.distinct_counts.Statement.{statement}

@@ -7,7 +7,7 @@ use native.Mathlib.Nat.{zero-mul}
 use lib.ListN.{length}
 use denote.Ref.{now}
 use Rattle.theory.specs.Store.{storedRows, rows-none, length-rows}
-use Rattle.grid.specs.Shapes.{product-le}
+use Rattle.shapes.specs.Shapes.{product-le}
 use Rattle.grid.specs.Strips.{link, stripSymbols, LastPlaces, LinkedRow}
 use Rattle.grid.specs.Strips.Rows.{strip-row-at, linkable-row, next-places, next-links}
 use Rattle.grid.proofs.strips.link_rows.Statement.{statement}

@@ -4,7 +4,7 @@ use mathlib.Core.Path.{_≡_, sym, _∙_, subst}
 use Prim.Native.Nat.{ℕ, _<_}
 use denote.Ref.{now}
 use lib.ListN.{length}
-use Rattle.grid.specs.Refusals.{refused-positive, accepted-zero}
+use Rattle.shapes.specs.Refusals.{refused-positive, accepted-zero}
 use Rattle.grid.specs.Strips.{linksNumber, links-kept}
 use Rattle.grid.specs.Strips.Rows.{strip-of, links-written}
 use borrow.Author.Needs.{needs}

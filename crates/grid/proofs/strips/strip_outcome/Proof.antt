@@ -4,8 +4,8 @@ use mathlib.Core.Path.{_≡_, sym, ap, _∙_}
 use native.Mathlib.Omega.{arith}
 use borrow.Author.Tests.{not-true, not-false}
 use mathlib.Core.Bool.{Bool}
-use Rattle.grid.specs.Shapes.{Shaped, shapeThen, goodCells, text-passed, product-le}
-use Rattle.grid.specs.Refusals.{outcomeNumber, refused-positive, accepted-zero}
+use Rattle.shapes.specs.Shapes.{Shaped, shapeThen, goodCells, text-passed, product-le}
+use Rattle.shapes.specs.Refusals.{outcomeNumber, refused-positive, accepted-zero}
 use Rattle.grid.specs.Strips.{links-shape-refused, links-column-refused, links-room-refused, links-accepted}
 use borrow.Author.Needs.{needs}
 use Rattle.grid.proofs.strips.strip_outcome.Statement.{statement}

@@ -3,7 +3,7 @@
 use mathlib.Core.Path.{_≡_, sym, ap, _∙_}
 use lib.ListN.{length}
 use denote.Ref.{now}
-use Rattle.grid.specs.Refusals.{outcomeNumber, accepted-zero}
+use Rattle.shapes.specs.Refusals.{outcomeNumber, accepted-zero}
 use Rattle.matching.specs.Compare.{windowNumber}
 use Rattle.matching.specs.Compare.Accepted.{window-placed}
 use Rattle.matching.specs.Compare.Verdicts.{answers-refused, answers-accepted}

@@ -9,7 +9,7 @@ use lib.ListN.{length, getD}
 use borrow.Author.Tests.{not-true, not-false}
 use denote.Ref.{now}
 use Rattle.theory.specs.Match.{ends}
-use Rattle.grid.specs.Windows.{window-at}
+use Rattle.shapes.specs.Windows.{window-at}
 use Rattle.matching.specs.Compare.{patternAt, windowOf, WalkAt}
 use Rattle.matching.specs.Compare.Walks.{walkable, walk-reads, walk-inside, walk-column, cells-small}
 use Rattle.matching.specs.Compare.Scans.{Passed, passed-none, passed-long, test-ends, passed-more, end-found, end-none}

@@ -5,7 +5,7 @@ use native.Mathlib.Omega.{arith}
 use Prim.Native.Nat.{_+_, _*_, _/_, _%_, _≤_, _<_}
 use lib.ListN.{length}
 use denote.Ref.{now}
-use Rattle.grid.specs.Windows.{window-at}
+use Rattle.shapes.specs.Windows.{window-at}
 use Rattle.matching.specs.Compare.Walks.{place-inside, rows-small, row-lt}
 use borrow.Author.Needs.{needs}
 use Rattle.matching.proofs.compare.symbol_at.Statement.{statement}

@@ -2,7 +2,7 @@
 -- Assumes nothing.
 use mathlib.Core.Path.{sym, _∙_}
 use borrow.Author.Tests.{not-true, not-false}
-use Rattle.grid.specs.Refusals.{refused-positive, accepted-zero}
+use Rattle.shapes.specs.Refusals.{refused-positive, accepted-zero}
 use Rattle.matching.specs.Compare.Accepted.{window-shape-refused, window-corner-refused, window-accepted}
 use borrow.Author.Needs.{needs}
 use Rattle.matching.proofs.compare.window_outcome.Statement.{statement}

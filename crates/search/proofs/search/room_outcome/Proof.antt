@@ -3,9 +3,9 @@
 use mathlib.Core.Path.{_≡_, sym, _∙_}
 use Prim.Native.Nat.{_*_, _≤_}
 use native.Mathlib.Omega.{arith}
-use Rattle.grid.specs.Refusals.{refused-positive, accepted-zero}
+use Rattle.shapes.specs.Refusals.{refused-positive, accepted-zero}
 use Rattle.theory.specs.Test.{both}
-use Rattle.grid.specs.Shapes.{Sized, shapeThen, goodCells, windows, shape-passed, product-le}
+use Rattle.shapes.specs.Shapes.{Sized, shapeThen, goodCells, windows, shape-passed, product-le}
 use Rattle.search.specs.Search.Accepted.{room-shape-refused, room-links-refused, room-counts-refused, room-flags-refused, room-accepted}
 use borrow.Author.Needs.{needs}
 use Rattle.search.proofs.search.room_outcome.Statement.{statement}

@@ -4,7 +4,7 @@ use mathlib.Core.Path.{_≡_, sym, ap, _∙_, subst}
 use Prim.Native.Nat.{ℕ, _<_}
 use lib.ListN.{length}
 use denote.Ref.{now}
-use Rattle.grid.specs.Refusals.{outcomeNumber, accepted-zero, refused-positive}
+use Rattle.shapes.specs.Refusals.{outcomeNumber, accepted-zero, refused-positive}
 use Rattle.search.specs.Search.{roomNumber}
 use Rattle.search.specs.Search.Accepted.{room-passed}
 use Rattle.search.specs.Search.Answers.{searches-refused, searches-room, links-kept, counts-kept, flags-kept, listing-kept, links-written, counts-written, flags-written, listing-written}

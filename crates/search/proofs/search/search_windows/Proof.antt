@@ -4,7 +4,7 @@
 use native.Mathlib.Omega.{arith}
 use denote.Ref.{now}
 use Rattle.grid.specs.Counts.{windows-small}
-use Rattle.search.specs.Flags.{pattern-small}
+use Rattle.flags.specs.Flags.{pattern-small}
 use Rattle.search.specs.Search.Answers.{says-short, says-listed, short-kept, long-written}
 use Rattle.search.specs.Search.Steps.{Totalled, flags-long, flagged, totalled, listing-fits, counts-over}
 use borrow.Author.Needs.{needs}

@@ -5,7 +5,7 @@ use mathlib.Core.Path.{ap}
 use Prim.Native.Nat.{ℕ, _+_, _-_, _*_, _≤_}
 use native.Mathlib.Omega.{arith}
 use denote.Ref.{now}
-use Rattle.grid.specs.Shapes.{product-le}
+use Rattle.shapes.specs.Shapes.{product-le}
 use Rattle.search.specs.Listing.{listingLength}
 use Rattle.search.specs.Listing.Totals.{ones-le, others-left}
 use borrow.Author.Needs.{needs}

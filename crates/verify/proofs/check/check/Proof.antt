@@ -5,8 +5,8 @@ use lib.ListN.{length}
 use borrow.Author.Needs.{needs}
 use denote.Ref.{now}
 use Rattle.theory.specs.Test.{both}
-use Rattle.grid.specs.Refusals.{numberOf, outcomeNumber, accepted-zero}
-use Rattle.grid.specs.Shapes.{shapeThen, goodCells}
+use Rattle.shapes.specs.Refusals.{numberOf, outcomeNumber, accepted-zero}
+use Rattle.shapes.specs.Shapes.{shapeThen, goodCells}
 use Rattle.verify.specs.Answers.{check-shape, check-walked, check-refused}
 use Rattle.verify.proofs.check.check.Statement.{statement}
 use Rattle.verify.proofs.check.check.Tie as tie

@@ -7,8 +7,9 @@ use Prim.Native.Nat.{_*_, _≤_}
 use borrow.Author.Needs.{needs}
 use denote.Ref.{now}
 use Rattle.grid.specs.Counts.{across, down, windows-small}
-use Rattle.verify.specs.Check.{goes, windowsTo, foundTo}
-use Rattle.verify.specs.Passages.{courseOf}
+use Rattle.claims.specs.Claims.{goes}
+use Rattle.verify.specs.Check.{windowsTo, foundTo}
+use Rattle.claims.specs.Passages.{courseOf}
 use Rattle.verify.specs.Windows.{WindowsWalked, found-le}
 use Rattle.verify.specs.Answers.{stopped-answer, closing-stopped, closing-kept}
 use Rattle.verify.proofs.check.check_listing.Statement.{statement}

@@ -8,7 +8,7 @@ use borrow.Author.Tests.{not-true, not-false}
 use denote.Ref.{now}
 use Rattle.theory.specs.Test.{both}
 use Rattle.matching.specs.Compare.{patternAt, windowOf}
-use Rattle.verify.specs.Check.{trueMismatch}
+use Rattle.claims.specs.Claims.{trueMismatch}
 use Rattle.verify.specs.Entries.{other-window, not-spoiled, is-spoiled}
 use Rattle.verify.proofs.entries.refused_window.Statement.{statement}
 use Rattle.verify.proofs.entries.refused_window.Tie as tie

@@ -10,8 +10,9 @@ use denote.Ref.{now}
 use Rattle.theory.specs.Older.{Older}
 use Rattle.grid.specs.Counts.{across, down, windows-small}
 use Rattle.matching.specs.Windows.{windowPlace, window-first, window-next, step-asks}
-use Rattle.verify.specs.Check.{goes, stops, entryFrom, windowsTo, foundTo}
-use Rattle.verify.specs.Passages.{courseOf}
+use Rattle.claims.specs.Claims.{goes, stops}
+use Rattle.verify.specs.Check.{entryFrom, windowsTo, foundTo}
+use Rattle.claims.specs.Passages.{courseOf}
 use Rattle.verify.specs.Entries.{goes-inside}
 use Rattle.verify.specs.Windows.{windows-none, found-none, windows-step, windows-stopped, found-step, found-le, window-asks}
 use Rattle.verify.proofs.windows.walk_windows.Statement.{statement}

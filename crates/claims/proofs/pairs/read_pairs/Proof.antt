@@ -1,0 +1,91 @@
+-- `pairs::read_pairs` meets its contract. The invariant: the pairs of the first i symbols, with those of the symbols left, give the whole course.
+-- Assumes nothing.
+use mathlib.Core.Path.{refl}
+use mathlib.Core.List.{[]}
+use native.Mathlib.Omega.{arith}
+use Prim.Native.Nat.{_-_}
+use lib.ListN.{length}
+use borrow.Author.Needs.{needs}
+use denote.Ref.{now}
+use Rattle.sets.specs.Symbols.{symbolsOf}
+use Rattle.matching.specs.Compare.{patternAt, windowOf, cellsOf}
+use Rattle.claims.specs.Claims.{Course, pairsFrom}
+use Rattle.claims.specs.Pairs.Rising.{PairsLeft, listed-has, left-all, left-none, left-stopped, left-passed, marks-next}
+use Rattle.claims.proofs.pairs.read_pairs.Statement.{statement}
+use Rattle.claims.proofs.pairs.read_pairs.Tie as tie
+
+abbrev Inv-loop : tie.InvT-loop
+Inv-loop text v pattern carried base images given₀ symbols listing at end₀ i₀ given end i =
+    PairsLeft (patternAt pattern) (windowOf text v) (cellsOf v) listing symbols base
+    (pairsFrom (patternAt pattern) (windowOf text v) (cellsOf v) listing (symbolsOf pattern) [] at) i end given
+
+abbrev μ-loop : tie.MeasureT-loop
+μ-loop text v pattern carried base images given₀ symbols listing at end₀ i₀ given end i = length symbols - i
+
+-- the course of all pairs
+abbrev whole : tie.Start Inv-loop μ-loop → Course
+whole o =
+    let a = o .args in
+    pairsFrom (patternAt (now (a .pattern))) (windowOf (now (a .text)) (a .v)) (cellsOf (a .v)) (now (a .listing)) (symbolsOf (now (a .pattern))) [] (a .at)
+
+loop-holds : tie.Need-loop-holds Inv-loop μ-loop
+loop-holds c = let o = c .before .before .before .before .before in left-all _ _ _ _ _ _ _ _ _ (o .pre .1) (o .pre .2)
+
+shared-slice-read-a : tie.Need-shared-slice-read-a Inv-loop μ-loop
+shared-slice-read-a c = omega arith
+
+read-pair-requires : tie.Need-read-pair-requires Inv-loop μ-loop
+read-pair-requires c κs =
+    let o = c .before .before .before .before .before .before .before .before .before in
+    let i = c .before .before .before .loop in
+    (o .pre .0, listed-has _ _ (i .i) (o .pre .1) (c .before .before .loop-test .taken), i .inv .marked .older .long)
+
+enum-known-step : tie.Need-enum-known-step Inv-loop μ-loop
+enum-known-step c = search needs
+
+enum-told : tie.Need-enum-told Inv-loop μ-loop
+enum-told c = search needs
+
+returns : tie.Need-returns Inv-loop μ-loop
+returns c =
+    let t = c .before .before .before .before .before in
+    let i = t .before .loop in
+    let e = c .before .before .read-pair .ensures (i .inv .before) (i .inv .marked) in (
+      left-stopped _ _ _ _ _ _ (whole (t .before .before .before .before .before .before .before)) _ _ _ (i .inv) _ refl (t .loop-test .taken) _ _ e _ (c .enum-told .given .1),
+      marks-next _ _ (e .older),
+    )
+
+add-i : tie.Need-add-i Inv-loop μ-loop
+add-i c = omega (arith, c .before .before .before .before .before .before .loop-test .taken)
+
+loop-less : tie.Need-loop-less Inv-loop μ-loop
+loop-less c = omega (arith, c .before .before .before .before .before .before .loop-test .taken)
+
+loop-again : tie.Need-loop-again Inv-loop μ-loop
+loop-again c =
+    let t = c .before .before .before .before .before .before in
+    let i = t .before .loop in
+    let e = c .before .before .before .read-pair .ensures (i .inv .before) (i .inv .marked) in
+    left-passed _ _ _ _ _ _ (whole (t .before .before .before .before .before .before .before)) _ _ _ (i .inv) _ refl (t .loop-test .taken) _ _ e _ (c .before .step .given .1)
+
+returns-2 : tie.Need-returns-2 Inv-loop μ-loop
+returns-2 c =
+    let i = c .before .loop .inv in
+    (left-none _ _ _ _ _ _ (whole (c .before .before .before .before .before .before .before)) _ _ _ i (omega (arith, c .loop-test .left)), marks-next _ _ (i .marked .older))
+
+pub read-pairs-spec : {M : Type 1} → statement M
+read-pairs-spec =
+    tie.close
+    (tie.spec
+    Inv-loop
+    μ-loop
+    loop-holds
+    shared-slice-read-a
+    read-pair-requires
+    enum-known-step
+    enum-told
+    returns
+    add-i
+    loop-less
+    loop-again
+    returns-2)

@@ -1,0 +1,6 @@
+pub mod Claims
+pub mod Passages
+pub mod Standing
+pub mod Carries
+pub mod Pairs
+pub mod Mismatches

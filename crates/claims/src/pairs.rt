@@ -1,0 +1,173 @@
+// The pairs of a found window, each against all cells of its symbol.
+ghost use mathlib.Core.Path.{_≡_};
+ghost use mathlib.Core.Bool.{true};
+ghost use mathlib.Core.List.{List, []};
+ghost use Prim.Native.Nat.{ℕ, _+_, _≤_};
+ghost use lib.ListN.{length};
+ghost use Rattle.theory.specs.Older.{Older};
+ghost use Rattle.grid.specs.Distinct.{contains};
+ghost use Rattle.sets.specs.Symbols.{symbolsOf};
+ghost use Rattle.matching.specs.Compare.{patternAt, windowOf, cellsOf, Placed};
+ghost use Rattle.claims.specs.Claims.{hasImage, pairsFrom};
+ghost use Rattle.claims.specs.Pairs.{FoundWindow, Marked, PairRead};
+ghost use Rattle.claims.specs.Passages.{courseOf};
+use crate::carries::carries;
+use crate::passages::Passage;
+use listing::reader::Cursor;
+use listing::reader::Read;
+use listing::records::Record;
+use matching::compare::WindowPlace;
+use matching::compare::symbol_at;
+use shapes::refusals::Refusal;
+
+// Whether the window has b in every cell where the pattern has a: the long way, cell by cell.
+fn all_cells_have(text: &[u8], v: WindowPlace, pattern: &[u8], a: u8, b: u8) -> bool
+    requires { ⌜ Placed (now text) v × (length (now pattern) ≡ cellsOf v) ⌝ }
+    ensures { λ r. ⌜ r ≡ hasImage (patternAt (now (pattern .entry))) (windowOf (now (text .entry)) v) (cellsOf v) a b ⌝ }
+{
+    let mut p = 0;
+    while p < pattern.len() {
+        if pattern[p] == a {
+            if symbol_at(text, v, p) != b {
+                return false;
+            }
+        }
+        p += 1;
+    }
+    true
+}
+
+// The same for a symbol of the pattern. Where the images carry the pattern onto the window, the symbol's image says it; the long way is walked only in a
+// window that stands as found and is not, and there some pair is false.
+fn has_image(
+    text: &[u8],
+    v: WindowPlace,
+    pattern: &[u8],
+    carried: bool,
+    base: u32,
+    images: &[u32],
+    a: u8,
+    b: u8,
+) -> bool
+    requires { ⌜ FoundWindow (now text) v (now pattern) carried base (now images) × (contains (now pattern) a ≡ true) ⌝ }
+    ensures { λ r. ⌜ r ≡ hasImage (patternAt (now (pattern .entry))) (windowOf (now (text .entry)) v) (cellsOf v) a b ⌝ }
+{
+    if carried {
+        return images[a as usize] == base + b as u32;
+    }
+    all_cells_have(text, v, pattern, a, b)
+}
+
+// The pair at a place, where a is the pattern's next symbol. The window's symbols that were given before are marked with base.
+fn read_pair(
+    text: &[u8],
+    v: WindowPlace,
+    pattern: &[u8],
+    carried: bool,
+    base: u32,
+    images: &[u32],
+    given: &mut [u32; 256],
+    a: u8,
+    listing: &[u8],
+    at: usize,
+) -> Passage
+    requires { ⌜ FoundWindow (now text) v (now pattern) carried base (now images) × (contains (now pattern) a ≡ true) × (length (now given) ≡ 256) ⌝ }
+    ensures { λ r. ⌜ ((before : List ℕ) → Marked base before (now (given .entry)) → PairRead (patternAt (now (pattern .entry))) (windowOf (now (text .entry)) v) (cellsOf v) (now (listing .entry)) a base at before r (now (given .exit))) ⌝ }
+{
+    let cursor = Cursor { at };
+    let Read::Whole(item, next) = cursor.read_pair_first(listing) else {
+        return Passage::Stopped(Refusal::ListingForm(at));
+    };
+    let Record::Pair {
+        pattern: x,
+        text: y,
+    } = item
+    else {
+        return Passage::Stopped(Refusal::ListingForm(at));
+    };
+    if x != a {
+        return Passage::Stopped(Refusal::ListingFalse(at));
+    }
+    if given[y as usize] == base {
+        return Passage::Stopped(Refusal::ListingFalse(at));
+    }
+    if !has_image(text, v, pattern, carried, base, images, a, y) {
+        return Passage::Stopped(Refusal::ListingFalse(at));
+    }
+    given[y as usize] = base;
+    Passage::Passed(next.at)
+}
+
+// A pair for each symbol of the pattern, rising. The symbols are listed once for all windows.
+fn read_pairs(
+    text: &[u8],
+    v: WindowPlace,
+    pattern: &[u8],
+    carried: bool,
+    base: u32,
+    images: &[u32],
+    given: &mut [u32; 256],
+    symbols: &[u8],
+    listing: &[u8],
+    at: usize,
+) -> Passage
+    requires { ⌜ FoundWindow (now text) v (now pattern) carried base (now images) × (now symbols ≡ symbolsOf (now pattern)) × Older base (now given) ⌝ }
+    ensures { λ r. ⌜ courseOf r ≡ pairsFrom (patternAt (now (pattern .entry))) (windowOf (now (text .entry)) v) (cellsOf v) (now (listing .entry)) (symbolsOf (now (pattern .entry))) [] at ⌝ }
+    ensures { λ r. ⌜ Older (base + 256) (now (given .exit)) ⌝ }
+{
+    let mut end = at;
+    let mut i = 0;
+    while i < symbols.len() {
+        let a = symbols[i];
+        let step = read_pair(
+            text,
+            v,
+            pattern,
+            carried,
+            base,
+            images,
+            given,
+            a,
+            listing,
+            end,
+        );
+        let Passage::Passed(next) = step else {
+            return step;
+        };
+        end = next;
+        i += 1;
+    }
+    Passage::Passed(end)
+}
+
+// The pairs of a window that stands as found: its cells are gone through once, before the pairs.
+pub fn found_pairs(
+    text: &[u8],
+    v: WindowPlace,
+    pattern: &[u8],
+    symbols: &[u8],
+    base: u32,
+    images: &mut [u32; 256],
+    given: &mut [u32; 256],
+    listing: &[u8],
+    at: usize,
+) -> Passage
+    requires { ⌜ Placed (now text) v × (length (now pattern) ≡ cellsOf v) × (now symbols ≡ symbolsOf (now pattern)) × (length (now images) ≡ 256) × Older base (now given) × (base ≤ 16777216) ⌝ }
+    ensures { λ r. ⌜ courseOf r ≡ pairsFrom (patternAt (now (pattern .entry))) (windowOf (now (text .entry)) v) (cellsOf v) (now (listing .entry)) (symbolsOf (now (pattern .entry))) [] at ⌝ }
+    ensures { λ r. ⌜ Older (base + 256) (now (given .exit)) ⌝ }
+    ensures { λ r. ⌜ length (now (images .exit)) ≡ 256 ⌝ }
+{
+    let carried = carries(text, v, pattern, base, images);
+    read_pairs(
+        text,
+        v,
+        pattern,
+        carried,
+        base,
+        images,
+        given,
+        symbols,
+        listing,
+        at,
+    )
+}

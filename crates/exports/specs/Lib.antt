@@ -1,6 +1,0 @@
-pub mod Bijections
-pub mod Checking
-pub mod Compare
-pub mod Reader
-pub mod Searching
-pub mod Symbols

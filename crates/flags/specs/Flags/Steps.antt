@@ -1,0 +1,68 @@
+-- What the steps of flagging leave in the buffers: every window's count and flag in order, the used links 0, and behind them what was there.
+-- Assumes nothing.
+use mathlib.Core.Path.{_≡_, refl, sym, _∙_, ap}
+use mathlib.Core.List.{List, _++_}
+use Prim.Native.Nat.{ℕ, _+_, _*_, _≤_, _<_}
+use native.Mathlib.Omega.{arith}
+use lib.ListN.{length, drop, List·getD-append, length-append, length-drop}
+use Rattle.theory.specs.Table.{table, length-table, getD-table}
+use Rattle.theory.specs.Store.{stored, storedRows, rows-none, rows-more, rows-all, Covers}
+use Rattle.shapes.specs.Refusals.{bufferAfter}
+use Rattle.grid.specs.Counts.{ShapeOf, across, down, countOf, countsAfter, counts-accepted, counts-after, windows-covered}
+use Rattle.grid.specs.declared.counts.Shape.{Shape}
+use Rattle.flags.specs.Flags.Strips.{CountsAre, flagOf}
+use Rattle.flags.specs.Flags.Links.{Kept}
+
+-- the first n entries of a buffer
+buffer-table : (f : ℕ → ℕ) (n : ℕ) (l : List ℕ) → bufferAfter 0 (table f n) l ≡ table f n ++ drop n l
+buffer-table f n l = ap (λ (k : ℕ). table f n ++ drop k l) (length-table f n)
+
+-- ---- counts
+
+module _ (text : List ℕ) (s : Shape) (counts after : List ℕ) (shape : ShapeOf s (length text)) (room : down s * across s ≤ length counts)
+    (is : after ≡ countsAfter text (s .rows) (s .columns) (s .height) (s .width) counts) where
+  after-is : after ≡ table (countOf text s) (down s * across s) ++ drop (down s * across s) counts
+  after-is =
+      is
+      ∙ counts-after text (s .rows) (s .columns) (s .height) (s .width) counts
+      (sym (counts-accepted (length text) (s .rows) (s .columns) (s .height) (s .width) (length counts) shape room))
+
+  pub counts-there : CountsAre text s after
+  counts-there k h =
+      rw after-is
+      (List·getD-append (table (countOf text s) (down s * across s)) (drop (down s * across s) counts) 0 k (omega (arith, length-table (countOf text s) (down s * across s)))
+      ∙ getD-table (countOf text s) (down s * across s) k 0 h)
+
+  pub counts-long : length after ≡ length counts
+  counts-long =
+      ap length after-is
+      ∙ length-append (table (countOf text s) (down s * across s)) (drop (down s * across s) counts)
+      ∙ omega (arith, length-table (countOf text s) (down s * across s), length-drop (down s * across s) counts)
+
+-- ---- flags
+
+pub flags-over : (text pattern : List ℕ) (s : Shape) (flags after : List ℕ) → 0 < across s → down s * across s ≤ length flags
+    → after ≡ storedRows (flagOf text pattern s) (λ left top. top * across s + left) (across s) (down s) flags
+    → after ≡ bufferAfter 0 (table (flagOf text pattern s) (down s * across s)) flags
+flags-over text pattern s flags after pos room e =
+    e
+    ∙ rows-all (flagOf text pattern s) (λ left top. top * across s + left) (down s) (across s) (down s * across s) flags (windows-covered s pos) room
+    ∙ sym (buffer-table (flagOf text pattern s) (down s * across s) flags)
+
+-- ---- links
+
+one-row : (n : ℕ) → Covers (λ i j. j) 1 n n
+one-row n = record { row = λ k. 0; column = λ k. k; place = λ k h. (omega arith, h, refl); inside = λ i j a b. b }
+
+-- n entries stored one after another
+cleared : (n : ℕ) (l r : List ℕ) → n ≤ length l → r ≡ stored (λ p. 0) (λ p. p) n l → r ≡ table (λ p. 0) n ++ drop n l
+cleared n l r h e =
+    rows-more (λ p. 0) (λ i j. j) n 0 l l r (sym (rows-none (λ p. 0) (λ i j. j) n l)) e
+    ∙ rows-all (λ p. 0) (λ i j. j) n 1 n l (one-row n) h
+
+pub links-over : (n : ℕ) (links used after : List ℕ) → n ≤ length links → Kept n links used → after ≡ stored (λ p. 0) (λ p. p) n used
+    → after ≡ bufferAfter 0 (table (λ p. 0) n) links
+links-over n links used after room kept e =
+    cleared n used after (omega (arith, kept .long)) e
+    ∙ ap (λ (r : List ℕ). table (λ p. 0) n ++ r) (kept .behind)
+    ∙ sym (buffer-table (λ p. 0) n links)

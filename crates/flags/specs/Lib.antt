@@ -1,0 +1,2 @@
+pub mod Observations
+pub mod Flags

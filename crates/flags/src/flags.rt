@@ -1,0 +1,212 @@
+// The flags of the windows, as document 004 finds them: a window's distinct count first, then the links of its strip.
+ghost use mathlib.Core.Path.{_≡_};
+ghost use Prim.Native.Nat.{_+_, _-_, _*_, _≤_, _<_};
+ghost use lib.ListN.{length, getD};
+ghost use Rattle.theory.specs.Test.{Tested, both};
+ghost use Rattle.theory.specs.Store.{stored, storedRows};
+ghost use Rattle.shapes.specs.Refusals.{bufferAfter};
+ghost use Rattle.grid.specs.Counts.{ShapeOf, across, down, countsAfter};
+ghost use Rattle.grid.specs.Distinct.{distinct};
+ghost use Rattle.theory.specs.Table.{table};
+ghost use Rattle.matching.specs.Compare.{patternAt};
+ghost use Rattle.flags.specs.Flags.{linkAgrees, linksAgree, flagBy, flagFrom, Room};
+ghost use Rattle.flags.specs.Flags.Strips.{flagOf, LinksAre, Wanted, Ready};
+ghost use Rattle.flags.specs.Flags.Links.{Kept};
+use grid::counts::Shape;
+use grid::counts::distinct_counts;
+use grid::strips::strip_links;
+use sets::symbols::symbols_of;
+
+// Whether the link of a position leads out of the window, or to a position with the same symbol in the pattern. No link, 0, leads to the position itself.
+fn link_agrees(pattern: &[u8], p: usize, d: usize) -> bool
+    requires { ⌜ p < length (now pattern) ⌝ }
+    ensures { λ r. ⌜ r ≡ linkAgrees (patternAt (now (pattern .entry))) p d ⌝ }
+{
+    if p < d {
+        return true;
+    }
+    pattern[p - d] == pattern[p]
+}
+
+// Whether the links of two positions do, one behind the other. Where both do, as in most of a window that the pattern matches, nothing else is asked.
+fn two_agree(pattern: &[u8], p: usize, d: usize, e: usize) -> bool
+    requires { ⌜ p + 1 < length (now pattern) ⌝ }
+    ensures { λ r. ⌜ r ≡ both (linkAgrees (patternAt (now (pattern .entry))) p d) (linkAgrees (patternAt (now (pattern .entry))) (p + 1) e) ⌝ }
+{
+    if link_agrees(pattern, p, d) {
+        return link_agrees(pattern, p + 1, e);
+    }
+    false
+}
+
+// Whether the links of all positions of the window do; base is the strip's position at which the window begins. Two positions a round, so that they share
+// what the loop itself costs; a window of odd size has one left over.
+fn links_agree(pattern: &[u8], links: &[u16], base: usize) -> bool
+    requires { ⌜ base + length (now pattern) ≤ length (now links) ⌝ }
+    ensures { λ r. ⌜ r ≡ linksAgree (patternAt (now (pattern .entry))) (λ p. getD (now (links .entry)) (base + p) 0) (length (now (pattern .entry))) ⌝ }
+{
+    let mut p = 0;
+    while p + 1 < pattern.len() {
+        let q = p + 1;
+        if !two_agree(
+            pattern,
+            p,
+            links[base + p] as usize,
+            links[base + q] as usize,
+        ) {
+            return false;
+        }
+        p += 2;
+    }
+    if p < pattern.len() {
+        return link_agrees(pattern, p, links[base + p] as usize);
+    }
+    true
+}
+
+// The flag of the window that begins at base: the links are looked at only where the counts are equal.
+fn flag(pattern: &[u8], symbols: u16, count: u16, links: &[u16], base: usize) -> u8
+    requires { ⌜ base + length (now pattern) ≤ length (now links) ⌝ }
+    ensures { λ r. ⌜ r ≡ flagBy (patternAt (now (pattern .entry))) symbols count (λ p. getD (now (links .entry)) (base + p) 0) (length (now (pattern .entry))) ⌝ }
+{
+    if count != symbols {
+        return 0;
+    }
+    if links_agree(pattern, links, base) {
+        return 1;
+    }
+    0
+}
+
+// The flags of the windows at column left, from the top down.
+fn flag_strip(
+    pattern: &[u8],
+    symbols: u16,
+    s: Shape,
+    left: usize,
+    counts: &[u16],
+    links: &[u16],
+    flags: &mut [u8],
+)
+    requires { ⌜ Room (s .rows * s .columns) (length (now pattern)) s (length (now links)) (length (now counts)) (length (now flags)) × (left < across s) ⌝ }
+    ensures { λ r. ⌜ now (flags .exit) ≡ stored (flagFrom (now (pattern .entry)) symbols s (now (counts .entry)) (now (links .entry))) (λ top. top * across s + left) (down s) (now (flags .entry)) ⌝ }
+{
+    let across = s.columns + 1 - s.width;
+    let down = s.rows + 1 - s.height;
+    let mut top = 0;
+    while top < down {
+        let k = top * across + left;
+        flags[k] = flag(pattern, symbols, counts[k], links, top * s.width);
+        top += 1;
+    }
+}
+
+// Whether some window at column left has as many symbols as the pattern: a strip without one needs no links.
+fn wanted(symbols: u16, s: Shape, left: usize, counts: &[u16]) -> bool
+    requires { ⌜ ShapeOf s (s .rows * s .columns) × (left < across s) × (down s * across s ≤ length (now counts)) ⌝ }
+    ensures { λ r. ⌜ Tested (Wanted symbols s left (now (counts .entry))) r ⌝ }
+{
+    let across = s.columns + 1 - s.width;
+    let down = s.rows + 1 - s.height;
+    let mut top = 0;
+    while top < down {
+        if counts[top * across + left] == symbols {
+            return true;
+        }
+        top += 1;
+    }
+    false
+}
+
+// The links of the strip at column left, if they are needed.
+fn needed_links(text: &[u8], symbols: u16, s: Shape, left: usize, counts: &[u16], links: &mut [u16])
+    requires { ⌜ ShapeOf s (length (now text)) × (left < across s) × (down s * across s ≤ length (now counts)) × (s .rows * s .width ≤ length (now links)) ⌝ }
+    ensures { λ r. ⌜ (Wanted symbols s left (now (counts .entry)) → LinksAre (now (text .entry)) s left (now (links .exit))) ⌝ }
+    ensures { λ r. ⌜ Kept (s .rows * s .width) (now (links .entry)) (now (links .exit)) ⌝ }
+{
+    if !wanted(symbols, s, left, counts) {
+        return;
+    }
+    strip_links(text, s.rows, s.columns, s.width, left, links);
+}
+
+// The flags of the windows at column left; the links buffer holds the strip's links meanwhile.
+fn flag_column(
+    text: &[u8],
+    pattern: &[u8],
+    symbols: u16,
+    s: Shape,
+    left: usize,
+    counts: &[u16],
+    links: &mut [u16],
+    flags: &mut [u8],
+)
+    requires { ⌜ Ready (now text) (now pattern) symbols s (now counts) (length (now links)) (length (now flags)) × (left < across s) ⌝ }
+    ensures { λ r. ⌜ now (flags .exit) ≡ stored (flagOf (now (text .entry)) (now (pattern .entry)) s) (λ top. top * across s + left) (down s) (now (flags .entry)) ⌝ }
+    ensures { λ r. ⌜ Kept (s .rows * s .width) (now (links .entry)) (now (links .exit)) ⌝ }
+{
+    needed_links(text, symbols, s, left, counts, links);
+    flag_strip(pattern, symbols, s, left, counts, links, flags);
+}
+
+// The flags of all windows, strip by strip.
+fn flag_windows(
+    text: &[u8],
+    pattern: &[u8],
+    symbols: u16,
+    s: Shape,
+    counts: &[u16],
+    links: &mut [u16],
+    flags: &mut [u8],
+)
+    requires { ⌜ Ready (now text) (now pattern) symbols s (now counts) (length (now links)) (length (now flags)) ⌝ }
+    ensures { λ r. ⌜ now (flags .exit) ≡ storedRows (flagOf (now (text .entry)) (now (pattern .entry)) s) (λ left top. top * across s + left) (across s) (down s) (now (flags .entry)) ⌝ }
+    ensures { λ r. ⌜ Kept (s .rows * s .width) (now (links .entry)) (now (links .exit)) ⌝ }
+{
+    let across = s.columns + 1 - s.width;
+    let mut left = 0;
+    while left < across {
+        flag_column(text, pattern, symbols, s, left, counts, links, flags);
+        left += 1;
+    }
+}
+
+// The first n entries become 0.
+fn clear(links: &mut [u16], n: usize)
+    requires { ⌜ n ≤ length (now links) ⌝ }
+    ensures { λ r. ⌜ now (links .exit) ≡ stored (λ p. 0) (λ p. p) n (now (links .entry)) ⌝ }
+{
+    let mut p = 0;
+    while p < n {
+        links[p] = 0;
+        p += 1;
+    }
+}
+
+// How many different symbols the pattern has.
+pub fn pattern_size(pattern: &[u8]) -> u16
+    requires { ⌜ length (now pattern) ≤ 65025 ⌝ }
+    ensures { λ r. ⌜ r ≡ distinct (now (pattern .entry)) ⌝ }
+{
+    symbols_of(pattern).size() as u16
+}
+
+// The first step of the search: the count and the flag of every window. What it used of the links buffer is 0 afterwards.
+pub fn flag_all(
+    text: &[u8],
+    pattern: &[u8],
+    s: Shape,
+    links: &mut [u16],
+    counts: &mut [u16],
+    flags: &mut [u8],
+)
+    requires { ⌜ Room (length (now text)) (length (now pattern)) s (length (now links)) (length (now counts)) (length (now flags)) ⌝ }
+    ensures { λ r. ⌜ now (counts .exit) ≡ countsAfter (now (text .entry)) (s .rows) (s .columns) (s .height) (s .width) (now (counts .entry)) ⌝ }
+    ensures { λ r. ⌜ now (flags .exit) ≡ bufferAfter 0 (table (flagOf (now (text .entry)) (now (pattern .entry)) s) (down s * across s)) (now (flags .entry)) ⌝ }
+    ensures { λ r. ⌜ now (links .exit) ≡ bufferAfter 0 (table (λ p. 0) (s .rows * s .width)) (now (links .entry)) ⌝ }
+{
+    let symbols = pattern_size(pattern);
+    distinct_counts(text, s.rows, s.columns, s.height, s.width, counts);
+    flag_windows(text, pattern, symbols, s, counts, links, flags);
+    clear(links, s.rows * s.width);
+}

@@ -1,0 +1,2 @@
+// The flag of every window, which the search begins with.
+pub mod flags;

@@ -1,0 +1,2 @@
+// Bijections between symbols.
+pub mod bijections;

@@ -1,0 +1,112 @@
+-- Document 01, 'Refused by number': the number of each refusal and what it returns besides.
+-- Assumes nothing.
+use mathlib.Core.Path.{_≡_, refl, ap}
+use Prim.Native.Nat.{ℕ, zero, suc, _≤_, _<_}
+use native.Mathlib.Omega.{arith}
+use mathlib.Core.Bool.{Bool}
+use mathlib.Core.List.{List, [], _∷_, _++_}
+use lib.ListN.{length, drop}
+use Rattle.theory.specs.Test.{pick}
+use Rattle.shapes.specs.declared.refusals.Refusal.{Refusal}
+use Rattle.shapes.specs.declared.refusals.Refusal.the-variants.{SizesMissing, SideRange, CellCount, TooLarge, CornerOutside, ListingForm, ListingFalse, TooManyCells, LinksBufferShort, WindowBufferShort, ListingBufferShort, HasOtherImage, HasOtherPreimage, ColumnsDisagree, CursorSpent}
+use Rattle.shapes.specs.declared.refusals.Outcome.{Outcome}
+use Rattle.shapes.specs.declared.refusals.Outcome.the-variants.{Accepted, Refused}
+
+-- document 01's number
+abbrev pub numberOf : Refusal → ℕ
+numberOf SizesMissing = 1
+numberOf SideRange = 2
+numberOf CellCount = 3
+numberOf TooLarge = 4
+numberOf CornerOutside = 5
+numberOf (ListingForm at) = 6
+numberOf (ListingFalse at) = 7
+numberOf TooManyCells = 8
+numberOf LinksBufferShort = 9
+numberOf WindowBufferShort = 10
+numberOf (ListingBufferShort needed) = 11
+numberOf HasOtherImage = 12
+numberOf HasOtherPreimage = 13
+numberOf ColumnsDisagree = 14
+numberOf (CursorSpent at) = 15
+
+-- what a refusal returns besides its number: a place in the listing for 6, 7 and 15, the length needed for 11. (The bijection that 14, 12 and
+-- 13 return as given holds arrays, and so stands beside the enum.)
+abbrev pub valuesOf : Refusal → List ℕ
+valuesOf SizesMissing = []
+valuesOf SideRange = []
+valuesOf CellCount = []
+valuesOf TooLarge = []
+valuesOf CornerOutside = []
+valuesOf (ListingForm at) = at ∷ []
+valuesOf (ListingFalse at) = at ∷ []
+valuesOf TooManyCells = []
+valuesOf LinksBufferShort = []
+valuesOf WindowBufferShort = []
+valuesOf (ListingBufferShort needed) = needed ∷ []
+valuesOf HasOtherImage = []
+valuesOf HasOtherPreimage = []
+valuesOf ColumnsDisagree = []
+valuesOf (CursorSpent at) = at ∷ []
+
+-- the number of an outcome: 0 where it is accepted
+abbrev pub outcomeNumber : Outcome → ℕ
+outcomeNumber Accepted = 0
+outcomeNumber (Refused why) = numberOf why
+
+-- the number of the refusal unless the test passes, and otherwise what comes after; 0 stands for accepted. A chain of these is document 01's
+-- order of refusals: each number is given when its test fails and every earlier one passes, and at no other time.
+abbrev pub unless : Bool → ℕ → ℕ → ℕ
+unless ok number after = pick ok after number
+
+-- a buffer after an operation that ends with that number: accepted, the new values first and the rest as it was; refused, all as it was
+abbrev pub bufferAfter : ℕ → List ℕ → List ℕ → List ℕ
+bufferAfter zero new old = new ++ drop (length new) old
+bufferAfter (suc number) new old = old
+
+-- no refusal has the number 0
+pub number-positive : (why : Refusal) → 0 < numberOf why
+number-positive SizesMissing = omega arith
+number-positive SideRange = omega arith
+number-positive CellCount = omega arith
+number-positive TooLarge = omega arith
+number-positive CornerOutside = omega arith
+number-positive (ListingForm at) = omega arith
+number-positive (ListingFalse at) = omega arith
+number-positive TooManyCells = omega arith
+number-positive LinksBufferShort = omega arith
+number-positive WindowBufferShort = omega arith
+number-positive (ListingBufferShort needed) = omega arith
+number-positive HasOtherImage = omega arith
+number-positive HasOtherPreimage = omega arith
+number-positive ColumnsDisagree = omega arith
+number-positive (CursorSpent at) = omega arith
+
+-- the refusals of a shape return nothing besides their number
+pub no-values : (why : Refusal) → numberOf why ≤ 5 → valuesOf why ≡ []
+no-values SizesMissing h = refl
+no-values SideRange h = refl
+no-values CellCount h = refl
+no-values TooLarge h = refl
+no-values CornerOutside h = refl
+no-values (ListingForm at) h = absurd (omega arith)
+no-values (ListingFalse at) h = absurd (omega arith)
+no-values TooManyCells h = refl
+no-values LinksBufferShort h = refl
+no-values WindowBufferShort h = refl
+no-values (ListingBufferShort needed) h = absurd (omega arith)
+no-values HasOtherImage h = refl
+no-values HasOtherPreimage h = refl
+no-values ColumnsDisagree h = refl
+no-values (CursorSpent at) h = absurd (omega arith)
+
+-- the number of an outcome whose case is known
+pub refused-positive : (o : Outcome) {why : Refusal} → o ≡ Refused why → 0 < outcomeNumber o
+refused-positive o {why} e = rw e (number-positive why)
+
+pub accepted-zero : (o : Outcome) → o ≡ Accepted → outcomeNumber o ≡ 0
+accepted-zero o e = ap outcomeNumber e
+
+pub buffer-refused : (number : ℕ) (new old : List ℕ) → 0 < number → old ≡ bufferAfter number new old
+buffer-refused zero new old h = absurd (omega arith)
+buffer-refused (suc number) new old h = refl
