@@ -1,6 +1,7 @@
 -- Document 01's tally operation: the number of different symbols in every window of a text.
 -- Assumes nothing.
-use mathlib.Core.Path.{_≡_, sym, _∙_, subst}
+use mathlib.Core.Path.{_≡_, refl, sym, _∙_, subst}
+use mathlib.Core.Bool.{false}
 use mathlib.Core.List.{List, [], _++_}
 use Prim.Native.Nat.{ℕ, zero, suc, _+_, _-_, _*_, _/_, _%_, _≤_, _<_}
 use native.Mathlib.Nat.{mul-le-mul-right, suc-mul, mod-lt, div-lt-iff-lt-mul, div-add-mod'}
@@ -12,8 +13,8 @@ use borrow.Author.Tests.{le-leb, lt-leb}
 use Rattle.theory.specs.Test.{le-tested, says-true}
 use Rattle.theory.specs.Table.{table, length-table}
 use Rattle.theory.specs.Store.{storedRows, rows-all, Covers}
-use Rattle.shapes.specs.Refusals.{unless, bufferAfter, buffer-refused}
-use Rattle.shapes.specs.Shapes.{shapeThen, goodCells, corners, windows, Shaped, product-le, shape-refused, shape-then-zero, one-passed, text-passed, text-passes}
+use Rattle.shapes.specs.Refusals.{unless, bufferAfter, buffer-refused, returnsMore, unless-plain}
+use Rattle.shapes.specs.Shapes.{shapeThen, goodCells, corners, windows, Shaped, product-le, shape-plain, shape-refused, shape-then-zero, one-passed, text-passed, text-passes}
 use Rattle.shapes.specs.Windows.{windowCells, rowCells, cornerRow, cornerColumn, corner-row, corner-column, row-inside, length-row-le, length-cells, cells-none, cells-last-row, cells-first-row}
 use Rattle.grid.specs.Distinct.{distinct}
 use Rattle.grid.specs.Occurrences.{Occurrences, Tracks, Room, Adds, size-le}
@@ -41,6 +42,11 @@ module _ (cells rows columns height width room : ℕ) where
   counts-shape-refused n e h = e ∙ sym (shape-refused (goodCells cells rows columns) rows columns height width _ (subst (λ (m : ℕ). 0 < m) e h))
 
   -- nothing is refused exactly if shape and buffer are good
+  -- no number that it gives returns anything besides
+  pub counts-plain : returnsMore (countsNumber cells rows columns height width room) ≡ false
+  unfolding countsNumber
+  counts-plain = shape-plain (goodCells cells rows columns) rows columns height width _ (unless-plain (leb (windows rows columns height width) room) 10 0 refl refl)
+
   pub counts-passed : countsNumber cells rows columns height width room ≡ 0 → Shaped cells rows columns height width × (windows rows columns height width ≤ room)
   unfolding countsNumber
   counts-passed e =

@@ -2,7 +2,7 @@
 -- Assumes nothing.
 pub mod Links
 pub mod Rows
-use mathlib.Core.Path.{_≡_, sym, _∙_, subst}
+use mathlib.Core.Path.{_≡_, refl, sym, _∙_, subst}
 use mathlib.Core.Bool.{true, false}
 use mathlib.Core.List.{List, _++_}
 use Prim.Native.Nat.{ℕ, suc, _+_, _-_, _*_, _≤_, _<_}
@@ -14,8 +14,8 @@ use Rattle.theory.specs.Test.{pick, le-tested, says-true}
 use Rattle.theory.specs.First.{first}
 use Rattle.theory.specs.Table.{table, length-table}
 use Rattle.theory.specs.Store.{stored}
-use Rattle.shapes.specs.Refusals.{unless, bufferAfter, buffer-refused}
-use Rattle.shapes.specs.Shapes.{shapeThen, goodCells, cornerInside, corner-inside, Shaped, shape-refused, shape-then-zero, two-passed, text-passed, text-passes}
+use Rattle.shapes.specs.Refusals.{unless, bufferAfter, buffer-refused, returnsMore, unless-plain}
+use Rattle.shapes.specs.Shapes.{shapeThen, goodCells, cornerInside, corner-inside, Shaped, shape-plain, shape-refused, shape-then-zero, two-passed, text-passed, text-passes}
 use Rattle.shapes.specs.Windows.{stripAt}
 use Rattle.grid.specs.declared.strips.Strip.{Strip}
 
@@ -45,6 +45,13 @@ module _ (cells rows columns width left room : ℕ) where
   links-shape-refused n e h = e ∙ sym (shape-refused (goodCells cells rows columns) rows columns rows width _ (subst (λ (m : ℕ). 0 < m) e h))
 
   -- nothing is refused exactly if shape, column and buffer are good
+  -- no number that it gives returns anything besides
+  pub links-plain : returnsMore (linksNumber cells rows columns width left room) ≡ false
+  unfolding linksNumber
+  links-plain =
+      shape-plain (goodCells cells rows columns) rows columns rows width _
+      (unless-plain (cornerInside rows columns rows width 0 left) 5 (unless (leb (rows * width) room) 9 0) refl (unless-plain (leb (rows * width) room) 9 0 refl refl))
+
   pub links-passed : linksNumber cells rows columns width left room ≡ 0 → Shaped cells rows columns rows width × (left + width ≤ columns) × (rows * width ≤ room)
   unfolding linksNumber
   links-passed e =

@@ -6,7 +6,7 @@ ghost use Prim.Native.Nat.{_+_, _*_, _≤_, _<_};
 ghost use lib.ListN.{length};
 ghost use Rattle.theory.specs.Store.{stored, storedRows};
 ghost use Rattle.grid.specs.Occurrences.{occurrencesOf, Tracks, Room, Starts, Adds, Removes};
-ghost use Rattle.shapes.specs.Refusals.{outcomeNumber};
+ghost use Rattle.shapes.specs.Refusals.{outcomeNumber, Ends};
 ghost use Rattle.shapes.specs.Windows.{rowCells};
 ghost use Rattle.grid.specs.Counts.{countsNumber, countsAfter, ShapeOf, cellsOf, countOf, across, down};
 use shapes::refusals::Outcome;
@@ -203,7 +203,7 @@ pub fn distinct_counts(
     width: usize,
     counts: &mut [u16],
 ) -> Outcome
-    ensures { λ r. ⌜ outcomeNumber r ≡ countsNumber (length (now (text .entry))) rows columns height width (length (now (counts .entry))) ⌝ }
+    ensures { λ r. ⌜ Ends (countsNumber (length (now (text .entry))) rows columns height width (length (now (counts .entry)))) r ⌝ }
     ensures { λ r. ⌜ now (counts .exit) ≡ countsAfter (now (text .entry)) rows columns height width (now (counts .entry)) ⌝ }
 {
     let outcome = counts_outcome(text.len(), rows, columns, height, width, counts.len());

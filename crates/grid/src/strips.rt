@@ -5,7 +5,7 @@ ghost use lib.Dec.{eqb};
 ghost use lib.ListN.{length};
 ghost use Rattle.theory.specs.Test.{pick};
 ghost use Rattle.theory.specs.Store.{storedRows};
-ghost use Rattle.shapes.specs.Refusals.{outcomeNumber};
+ghost use Rattle.shapes.specs.Refusals.{outcomeNumber, Ends};
 ghost use Rattle.grid.specs.Strips.{link, linksNumber, linksAfter, stripSymbols, StripOf, LastPlaces, RowAt, Linkable, LinkedRow};
 use shapes::refusals::Outcome;
 use shapes::refusals::Refusal;
@@ -103,7 +103,7 @@ pub fn strip_links(
     left: usize,
     links: &mut [u16],
 ) -> Outcome
-    ensures { λ r. ⌜ outcomeNumber r ≡ linksNumber (length (now (text .entry))) rows columns width left (length (now (links .entry))) ⌝ }
+    ensures { λ r. ⌜ Ends (linksNumber (length (now (text .entry))) rows columns width left (length (now (links .entry)))) r ⌝ }
     ensures { λ r. ⌜ now (links .exit) ≡ linksAfter (now (text .entry)) rows columns width left (now (links .entry)) ⌝ }
 {
     let outcome = strip_outcome(text.len(), rows, columns, width, left, links.len());

@@ -1,21 +1,35 @@
--- What follows from demand 3 for who has a listing in hand, whoever made it: no window is left out, none is passed wrongly, the two cells of a refused window
--- lie in the pattern and are alike on one side only, and any two listings for a text and a pattern have the same counts. Each needs the demand alone.
+-- What follows from demand 3 for who has a listing in hand, whoever made it: no window is left out, none is passed wrongly, a found window has its renaming, the
+-- two cells of a refused window lie in the pattern and are alike on one side only, the listing has the bytes that document 01 counts and reading it gives its
+-- records, and any two listings for a text and a pattern have the same counts. Each needs the demand alone; that the cells lie in the pattern needs besides that
+-- the pattern has a column.
 -- Assumes nothing.
-use mathlib.Core.Path.{_≡_, refl, sym, _∙_}
-use mathlib.Core.Bool.{Bool}
-use mathlib.Core.List.{List, [], _∷_}
-use Prim.Native.Nat.{ℕ, _+_, _-_, _*_, _/_, _%_, _<_}
+use mathlib.Core.Path.{_≡_, refl, sym, _∙_, ap}
+use mathlib.Core.Bool.{Bool, not}
+use mathlib.Core.List.{List, [], _∷_, _++_}
+use Prim.Native.Nat.{ℕ, zero, suc, _+_, _-_, _*_, _/_, _%_, _<_}
 use native.Mathlib.Nat.{mod-lt, div-lt-iff-lt-mul}
 use native.Mathlib.Omega.{arith}
 use lib.Dec.{ltb}
-use Rattle.theory.specs.Test.{Tested, tested-iff, tested-same, lt-tested}
-use Rattle.theory.specs.Count.{count-ext}
+use lib.ListN.{length, length-append}
+use borrow.Author.Tests.{lt-ltb, le-ltb}
+use Rattle.theory.specs.Test.{pick, pick-true, pick-false, Tested, tested-iff, tested-same, lt-tested}
+use Rattle.theory.specs.Join.{joined}
+use Rattle.theory.specs.Count.{count, count-ext}
 use Rattle.theory.specs.Match.{Matches, Mismatch}
+use Rattle.theory.specs.Match.Answers.{no-mismatch-iff}
 use Rattle.shapes.specs.Shapes.{Corner, corners, windows}
 use Rattle.shapes.specs.Windows.{windowAt, cornerRow, cornerColumn}
+use Rattle.grid.specs.Distinct.{distinct}
 use Rattle.matching.specs.Compare.{patternAt}
-use Rattle.listing.specs.Entries.{spoiledAt, mismatchRecord}
+use Rattle.listing.specs.Records.{bytesOf}
+use Rattle.listing.specs.Reader.{Reads}
+use Rattle.listing.specs.RoundTrip.{records-read}
+use Rattle.listing.specs.Entries.{bytesAll, bytes-append, pairsOf, spoiledAt, mismatchRecord, entry-found, entry-refused, length-found, length-refused, RightPairs}
+use Rattle.listing.specs.Lengths.{length-joined, length-closing}
 use Rattle.listing.specs.declared.records.Record.{Record}
+use Rattle.listing.specs.declared.records.Record.the-variants.{Found, Closing}
+use Rattle.listing.specs.declared.reader.Read.the-variants.{Whole}
+use Rattle.search.specs.Listing.{listingLength}
 use Rattle.guarantee.specs.Demand3.{timesFound, timesRefused, Shown, as-found, as-refused, recordsOf, Shows, Demand3}
 use Rattle.guarantee.specs.Shown.{corner-of}
 
@@ -70,6 +84,67 @@ module _ (text : List ℕ) (rows columns : ℕ) (pattern : List ℕ) (height wid
                 mismatch = d;
               },
             )
+
+    -- one that stands as found has its renaming: one pair for each symbol of the pattern, rising, each with the window's symbol in that symbol's cells
+    pub renamed : timesFound records row column ≡ 1
+        → (symbols : List ℕ) × (image : ℕ → ℕ) × (demand .0 row column ≡ Found row column ∷ pairsOf image symbols)
+        × RightPairs pattern (windowAt text columns row column width) (height * width) symbols image
+    renamed once = go (demand .0 row column) refl (shows .each-shown row column corner)
+      where
+        go : (rs : List Record) → demand .0 row column ≡ rs → Shown text columns pattern height width row column rs
+            → (symbols : List ℕ) × (image : ℕ → ℕ) × (demand .0 row column ≡ Found row column ∷ pairsOf image symbols)
+            × RightPairs pattern (windowAt text columns row column width) (height * width) symbols image
+        go rs e (as-found symbols image right many) = (symbols, image, e, right)
+        go rs e (as-refused side q p inside d) = absurd (no-mismatch-iff _ _ (height * width) .1 (shows .found-iff row column corner .0 once) side q p inside d)
+
+    -- its records have 3 + 3d bytes, those of a refused one 7
+    length-shown : length (bytesAll (demand .0 row column)) ≡ pick (ltb 0 (timesFound records row column)) (3 + 3 * distinct pattern) 7
+    length-shown = go (demand .0 row column) (shows .each-shown row column corner)
+      where
+        go : (rs : List Record) → Shown text columns pattern height width row column rs
+            → length (bytesAll rs) ≡ pick (ltb 0 (timesFound records row column)) (3 + 3 * distinct pattern) 7
+        go rs (as-found symbols image right many) =
+            let once = shows .found-iff row column corner .1 (image, right .maps) in
+            ap (λ (xs : List Record). length (bytesAll xs)) (sym (entry-found row column width symbols image)) ∙ length-found row column width symbols image
+            ∙ ap (λ (d : ℕ). 3 + 3 * d) many ∙ sym (pick-true _ _ (lt-ltb 0 (timesFound records row column) (omega arith)))
+        go rs (as-refused side q p inside d) =
+            let once = shows .refused-iff row column corner .1 (λ f. no-mismatch-iff _ _ (height * width) .1 f side q p inside d) in
+            ap (λ (xs : List Record). length (bytesAll xs)) (sym (entry-refused row column width [] (λ a. a) side q p)) ∙ length-refused row column width [] (λ a. a) side q p
+            ∙ sym (pick-false _ _ (le-ltb 0 (timesFound records row column) (omega (arith, shows .just-once row column corner))))
+
+  -- the listing has a × (3 + 3d) + 7b + 5 bytes
+  pub listing-length : length listing ≡ listingLength found refused (distinct pattern)
+  unfolding recordsOf
+  listing-length =
+      ap length (shows .bytes-are) ∙ ap length (bytes-append (joined entries all) (Closing found refused ∷ []))
+      ∙ length-append (bytesAll (joined entries all)) (bytesAll (Closing found refused ∷ []))
+      ∙ rw (length-closing found refused, length-joined entries standsFound (3 + 3 * distinct pattern) all (λ k h. length-shown _ _ (corner-of rows columns height width k h)), ← found-same, ← refused-same)
+    where
+      entries : ℕ → List Record
+      entries k = demand .0 (cornerRow (corners columns width) k) (cornerColumn (corners columns width) k)
+
+      all : ℕ
+      all = windows rows columns height width
+
+      standsFound : ℕ → Bool
+      standsFound k = ltb 0 (timesFound records (cornerRow (corners columns width) k) (cornerColumn (corners columns width) k))
+
+      found-same : found ≡ count standsFound all
+      found-same = shows .found-is
+
+      other : (a b : ℕ) → a + b ≡ 1 → not (ltb 0 a) ≡ ltb 0 b
+      other zero b e = let one : b ≡ 1 = omega arith in rw one
+      other (suc zero) b e = let none : b ≡ 0 = omega arith in rw none
+      other (suc (suc a)) b e = absurd (omega arith)
+
+      refused-same : refused ≡ count (λ k. not (standsFound k)) all
+      refused-same =
+          shows .refused-is ∙ count-ext _ _ all (λ k h. sym (other _ _ (shows .just-once _ _ (corner-of rows columns height width k h))))
+
+  -- reading it where a record begins gives the record, and the place where the next one begins
+  pub reads-records : (before after : List Record) (r : Record) → records ≡ before ++ (r ∷ after)
+      → Reads listing (length (bytesAll before)) (Whole r (record { at = length (bytesAll before) + length (bytesOf r) }))
+  reads-records before after r e = rw (shows .bytes-are, e) (records-read before after r)
 
   -- a window stands as found exactly if the pattern matches it
   pub found-tested : (k : ℕ) → k < windows rows columns height width

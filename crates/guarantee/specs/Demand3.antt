@@ -1,7 +1,7 @@
 -- Demand 3 as one definition: what holds of a text, a pattern, a listing, found and refused, whoever made the listing. Its sentences are those of the demand
 -- and of the last paragraph of document 01's 'Reading and checking'. That it holds of every listing that the check passes or the search writes is in
--- `Theorems`. A one-to-one renaming is there as in document 01, a one-to-one mapping of the pattern's symbols; that it is the same as one of all symbols is
--- theory's `matches-total`.
+-- `Theorems`. A one-to-one renaming is there a one-to-one mapping of the pattern's symbols (document 004's definition); that it is the same as document 01's
+-- renaming, two columns that agree, is theory's `matches-columns`.
 -- Assumes nothing.
 use mathlib.Core.Path.{_≡_}
 use mathlib.Core.Bool.{Bool, false}

@@ -13,7 +13,7 @@ use lib.Dec.{ltb}
 use lib.ListN.{length, getD}
 use Rattle.theory.specs.Test.{pick, true-false}
 use Rattle.theory.specs.Join.{joined, joined-ext}
-use Rattle.theory.specs.Count.{count-ext, count-not, length-members}
+use Rattle.theory.specs.Count.{count, count-ext, count-not, length-members}
 use Rattle.theory.specs.Match.{Matches, Answer, matched, mismatched, isMatch}
 use Rattle.theory.specs.Match.Answers.{no-mismatch-iff}
 use Rattle.shapes.specs.Shapes.{Corner, corners, windows}
@@ -215,8 +215,8 @@ module _ (text : List ℕ) (rows columns : ℕ) (pattern : List ℕ) (height wid
           (λ t. stands-found row column c .0 (one-if (isMatch (e .answer (number row column))) .0 (sym (found-times row column c) ∙ t))),
           (λ f. found-times row column c ∙ one-if (isMatch (e .answer (number row column))) .1 (stands-found row column c .1 f)),
         );
-        found-is = keeps .found-is ∙ count-ext (λ k. isMatch (e .answer k)) (λ k. ltb 0 (timesFound records (k / across) (k % across))) all found-same;
-        refused-is = keeps .refused-is ∙ count-ext (λ k. not (isMatch (e .answer k))) (λ k. ltb 0 (timesRefused records (k / across) (k % across))) all refused-same;
+        found-is = omega (arith, found-total);
+        refused-is = omega (arith, refused-total);
         sum-is = omega (arith, total);
       }
     where
@@ -227,6 +227,12 @@ module _ (text : List ℕ) (rows columns : ℕ) (pattern : List ℕ) (height wid
       refused-same : (k : ℕ) → k < all → not (isMatch (e .answer k)) ≡ ltb 0 (timesRefused records (k / across) (k % across))
       refused-same k h =
           sym (ap (ltb 0) (refused-times (k / across) (k % across) (corner-of rows columns height width k h)) ∙ some-unless (isMatch (e .answer (number (k / across) (k % across)))) ∙ ap (λ (j : ℕ). not (isMatch (e .answer j))) (number-of k))
+
+      found-total : found ≡ count (λ k. ltb 0 (timesFound records (k / across) (k % across))) all
+      found-total = keeps .found-is ∙ count-ext (λ k. isMatch (e .answer k)) (λ k. ltb 0 (timesFound records (k / across) (k % across))) all found-same
+
+      refused-total : refused ≡ count (λ k. ltb 0 (timesRefused records (k / across) (k % across))) all
+      refused-total = keeps .refused-is ∙ count-ext (λ k. not (isMatch (e .answer k))) (λ k. ltb 0 (timesRefused records (k / across) (k % across))) all refused-same
 
       total : found + refused ≡ (rows - height + 1) * (columns - width + 1)
       total =

@@ -1,5 +1,5 @@
--- DEMAND 3, one theorem over search and check (`demand-3`), and what follows for who has a listing in hand. It needs only what the two operations ensure, and
--- that pattern and listing are bytes, which they are wherever code holds them.
+-- DEMAND 3, one theorem over search and check (`demand-3`). It needs nothing but what the two operations ensure: each of its premises is an `ensures` of
+-- `search` or of `check`.
 -- Why it holds: what the check accepts keeps the rules, what the search writes keeps them too (`search-keeps`), and a listing that keeps the rules is as the
 -- demand says (`keeps-shows`).
 -- Assumes nothing.
@@ -8,6 +8,7 @@ use mathlib.Core.List.{List, [], _∷_}
 use Prim.Native.Nat.{ℕ, _+_, _*_, _<_}
 use native.Mathlib.Omega.{arith}
 use lib.ListN.{length, getD, take}
+use Rattle.theory.specs.Bytes.{Bytes}
 use Rattle.theory.specs.Match.{Answer, matched, mismatched, answerOf, imageOf}
 use Rattle.theory.specs.Match.Even.{maps-even, even-maps}
 use Rattle.theory.specs.Match.Answers.{match-iff, mismatch-iff}
@@ -32,10 +33,6 @@ use Rattle.verify.specs.declared.check.Checked.{Checked}
 use Rattle.verify.specs.declared.check.Checked.the-variants.{Kept}
 use Rattle.guarantee.specs.Demand3.{Shows, Demand3}
 use Rattle.guarantee.specs.Shown.{entryShown, keeps-shows}
-
--- every entry is a byte
-abbrev pub Bytes : List ℕ → Type 0
-Bytes l = (k : ℕ) → getD l k 0 < 256
 
 -- ---- what the search writes keeps the rules
 
@@ -122,16 +119,17 @@ module _ (text : List ℕ) (rows columns : ℕ) (pattern : List ℕ) (height wid
 -- of every listing that the check accepts
 abbrev pub OfTheCheck : Type 0
 OfTheCheck =
-    (text : List ℕ) (rows columns : ℕ) (pattern : List ℕ) (height width : ℕ) (listing : List ℕ) (found refused : ℕ) → Bytes pattern → Bytes listing
-    → Checks text rows columns pattern height width listing (Kept found refused) → Demand3 text rows columns pattern height width listing found refused
+    (text : List ℕ) (rows columns : ℕ) (pattern : List ℕ) (height width : ℕ) (listing : List ℕ) (found refused : ℕ)
+    → Checks text rows columns pattern height width listing (Kept found refused) → Bytes pattern × Bytes listing
+    → Demand3 text rows columns pattern height width listing found refused
 
 -- of every listing that the search writes: as many first bytes of the listing buffer after it as the returned length says. There besides each window's
 -- records list its one-window answer.
 abbrev pub OfTheSearch : Type 0
 OfTheSearch =
-    (text : List ℕ) (rows columns : ℕ) (pattern : List ℕ) (height width links counts flags : ℕ) (before after : List ℕ) (found refused size : ℕ) → Bytes pattern
+    (text : List ℕ) (rows columns : ℕ) (pattern : List ℕ) (height width links counts flags : ℕ) (before after : List ℕ) (found refused size : ℕ)
     → Searches text rows columns pattern height width links counts flags (length before) (Listed found refused size)
-    → after ≡ listingAfterSearch text rows columns pattern height width links counts flags before
+    → after ≡ listingAfterSearch text rows columns pattern height width links counts flags before → Bytes pattern
     → (entry : ℕ → ℕ → List Record) × Shows text rows columns pattern height width (take size after) found refused entry
     × ((row column : ℕ) → Corner rows columns height width row column → (a : WindowAnswer) → Answers text rows columns pattern height width row column a
     → entry row column ≡ verdictRecords row column width (symbolsOf pattern) (a .bijection .forward) (a .verdict))
@@ -140,12 +138,12 @@ pub demand-3 : OfTheCheck × OfTheSearch
 demand-3 = (checked, searched)
   where
     checked : OfTheCheck
-    checked text rows columns pattern height width listing found refused pattern-bytes listing-bytes checks =
+    checked text rows columns pattern height width listing found refused checks (pattern-bytes, listing-bytes) =
         let k = accepts-only text rows columns pattern height width listing (Kept found refused) checks pattern-bytes listing-bytes found refused refl in
         (entryShown text rows columns pattern height width listing found refused (k .0) (k .1) pattern-bytes, keeps-shows text rows columns pattern height width listing found refused (k .0) (k .1) pattern-bytes)
 
     searched : OfTheSearch
-    searched text rows columns pattern height width links counts flags before after found refused size bytes searches written =
+    searched text rows columns pattern height width links counts flags before after found refused size searches written bytes =
         let k = searched-keeps text rows columns pattern height width links counts flags before after found refused size bytes searches written in (
           entryShown text rows columns pattern height width (take size after) found refused (searchEntries text rows columns pattern height width) k bytes,
           keeps-shows text rows columns pattern height width (take size after) found refused (searchEntries text rows columns pattern height width) k bytes,
@@ -153,10 +151,10 @@ demand-3 = (checked, searched)
         )
 
 -- what the search writes, the check accepts, with the same counts
-pub search-then-check : (text : List ℕ) (rows columns : ℕ) (pattern : List ℕ) (height width links counts flags : ℕ) (before after : List ℕ) (found refused size : ℕ) → Bytes pattern
+pub search-then-check : (text : List ℕ) (rows columns : ℕ) (pattern : List ℕ) (height width links counts flags : ℕ) (before after : List ℕ) (found refused size : ℕ)
     → Searches text rows columns pattern height width links counts flags (length before) (Listed found refused size)
-    → after ≡ listingAfterSearch text rows columns pattern height width links counts flags before
+    → after ≡ listingAfterSearch text rows columns pattern height width links counts flags before → Bytes pattern
     → (r : Checked) → Checks text rows columns pattern height width (take size after) r → r ≡ Kept found refused
-search-then-check text rows columns pattern height width links counts flags before after found refused size bytes searches written r checks =
+search-then-check text rows columns pattern height width links counts flags before after found refused size searches written bytes r checks =
     accepts-all text rows columns pattern height width (take size after) r checks bytes found refused
     (searchEntries text rows columns pattern height width, searched-keeps text rows columns pattern height width links counts flags before after found refused size bytes searches written)

@@ -1,5 +1,6 @@
 pub mod Records
 pub mod Entries
+pub mod Lengths
 pub mod Writing
 pub mod Pieces
 pub mod Reader

@@ -10,6 +10,7 @@ use native.Mathlib.Omega.{arith}
 use lib.ListN.{length, getD, take, drop, length-append}
 use lib.Seq.{length-take-le, take-append-seam, drop-append-seam, getD-append-seam}
 use Rattle.listing.specs.Records.{bytesOf, kindSize, written}
+use Rattle.listing.specs.Entries.{bytesAll, bytes-cons, bytes-append}
 use Rattle.listing.specs.Reader.{sizeAt, cursorNumber, cursorValues, Reads}
 use Rattle.listing.specs.Reading.{HasRecord, number-whole}
 use Rattle.listing.specs.Answers.{reads-is}
@@ -91,3 +92,10 @@ unfolding written
 read-written l at r h q k =
     let front : length (take at l) ≡ at = length-take-le at l (omega arith) in
     rw (← front) (round-trip (take at l) (drop (at + length (bytesOf r)) l) r q (rw front k))
+
+-- and of the bytes of many records: reading where one begins gives it, and the place where the next one begins
+pub records-read : (before after : List Record) (r : Record)
+    → Reads (bytesAll (before ++ (r ∷ after))) (length (bytesAll before)) (Whole r (record { at = length (bytesAll before) + length (bytesOf r) }))
+records-read before after r =
+    rw (bytes-append before (r ∷ after) ∙ ap (λ (xs : List ℕ). bytesAll before ++ xs) (bytes-cons r after) ∙ sym (append-assoc (bytesAll before) (bytesOf r) (bytesAll after)))
+    (round-trip-reads (bytesAll before) (bytesAll after) r)

@@ -1,7 +1,7 @@
 // Bijections between symbols, as two columns: forward gives the image of a pattern symbol, backward the preimage of a text symbol.
 ghost use mathlib.Core.Path.{_≡_};
 ghost use Rattle.theory.specs.Columns.{noneOr, through, chained, backAt, leadsBack};
-ghost use Rattle.shapes.specs.Refusals.{outcomeNumber};
+ghost use Rattle.shapes.specs.Refusals.{Ends};
 ghost use Rattle.mapping.specs.Bijections.{emptyBijection, goodColumns, pairNumber, pairAfter, invertNumber, invertAfter, composeNumber, composeAfter};
 use shapes::refusals::Outcome;
 use shapes::refusals::Refusal;
@@ -90,7 +90,7 @@ fn may_have(x: u16, y: u8) -> bool
 
 // Pairs a with c. Refused by 14, then 12, then 13.
 pub fn pair(b: Bijection, a: u8, c: u8) -> BijectionAnswer
-    ensures { λ r. ⌜ outcomeNumber (r .outcome) ≡ pairNumber b a c ⌝ }
+    ensures { λ r. ⌜ Ends (pairNumber b a c) (r .outcome) ⌝ }
     ensures { λ r. ⌜ r .bijection ≡ pairAfter b a c ⌝ }
 {
     if !columns_agree(b) {
@@ -126,7 +126,7 @@ pub fn pair(b: Bijection, a: u8, c: u8) -> BijectionAnswer
 
 // Exchanges the columns. Refused by 14.
 pub fn invert(b: Bijection) -> BijectionAnswer
-    ensures { λ r. ⌜ outcomeNumber (r .outcome) ≡ invertNumber b ⌝ }
+    ensures { λ r. ⌜ Ends (invertNumber b) (r .outcome) ⌝ }
     ensures { λ r. ⌜ r .bijection ≡ invertAfter b ⌝ }
 {
     if !columns_agree(b) {
@@ -174,7 +174,7 @@ fn chain<'a>(f: &'a [u16; 256], g: &'a [u16; 256]) -> [u16; 256]
 
 // First b, then d. Refused by 14 if either earns it.
 pub fn compose(b: Bijection, d: Bijection) -> BijectionAnswer
-    ensures { λ r. ⌜ outcomeNumber (r .outcome) ≡ composeNumber b d ⌝ }
+    ensures { λ r. ⌜ Ends (composeNumber b d) (r .outcome) ⌝ }
     ensures { λ r. ⌜ r .bijection ≡ composeAfter b d ⌝ }
 {
     if !columns_agree(b) {

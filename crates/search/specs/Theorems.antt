@@ -4,7 +4,7 @@
 -- Assumes nothing.
 use mathlib.Core.Path.{_≡_, refl, sym, _∙_, ap}
 use mathlib.Core.Bool.{Bool, true, false}
-use mathlib.Core.List.{List, [], _∷_, _++_, append-assoc}
+use mathlib.Core.List.{List, [], _∷_, _++_}
 use mathlib.Core.Logic.{_↔_}
 use Prim.Native.Nat.{ℕ, _+_, _-_, _*_, _<_}
 use native.Mathlib.Omega.{arith}
@@ -28,8 +28,8 @@ use Rattle.matching.specs.declared.compare.Verdict.the-variants.{Match, Mismatc
 use Rattle.matching.specs.declared.compare.WindowAnswer.{WindowAnswer}
 use Rattle.listing.specs.Records.{bytesOf}
 use Rattle.listing.specs.Reader.{Reads}
-use Rattle.listing.specs.RoundTrip.{round-trip-reads}
-use Rattle.listing.specs.Entries.{bytesAll, bytes-cons, bytes-append, pairsOf, pairs-ext, spoiledAt, mismatchRecord, RightPairs, right-pairs, entryOf, entry-found, entry-refused}
+use Rattle.listing.specs.RoundTrip.{records-read}
+use Rattle.listing.specs.Entries.{bytesAll, pairsOf, pairs-ext, spoiledAt, mismatchRecord, RightPairs, right-pairs, entryOf, entry-found, entry-refused}
 use Rattle.listing.specs.declared.records.Record.{Record}
 use Rattle.listing.specs.declared.records.Record.the-variants.{Found}
 use Rattle.listing.specs.declared.reader.Read.the-variants.{Whole}
@@ -152,9 +152,7 @@ module _ (text : List ℕ) (rows columns : ℕ) (pattern : List ℕ) (height wid
   pub listing-reads : (before after : List Record) (r : Record) → searchRecords text rows columns pattern height width ≡ before ++ (r ∷ after)
       → Reads (searchListing text rows columns pattern height width) (length (bytesAll before)) (Whole r (record { at = length (bytesAll before) + length (bytesOf r) }))
   unfolding searchListing
-  listing-reads before after r e =
-      rw (ap bytesAll e ∙ bytes-append before (r ∷ after) ∙ ap (λ (xs : List ℕ). bytesAll before ++ xs) (bytes-cons r after) ∙ sym (append-assoc (bytesAll before) (bytesOf r) (bytesAll after)))
-      (round-trip-reads (bytesAll before) (bytesAll after) r)
+  listing-reads before after r e = rw e (records-read before after r)
 
   -- after an accepted search as many first bytes of the buffer as the length says are the listing
   pub first-bytes : (links counts flags : ℕ) (listing : List ℕ) → ((k : ℕ) → getD pattern k 0 < 256)

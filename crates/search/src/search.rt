@@ -2,6 +2,7 @@
 ghost use mathlib.Core.Path.{_≡_};
 ghost use lib.ListN.{length};
 ghost use Prim.Native.Nat.{_*_};
+ghost use Rattle.theory.specs.Bytes.{Bytes};
 ghost use Rattle.theory.specs.Table.{table};
 ghost use Rattle.shapes.specs.Refusals.{outcomeNumber, bufferAfter};
 ghost use Rattle.grid.specs.Counts.{across, down, countOf};
@@ -93,7 +94,8 @@ fn search_windows(
     }
 }
 
-// Searches a text for a pattern. Refused by 2, 3, 4, 9, 10, and by 11 once the length of the listing is known.
+// Searches a text for a pattern. Refused by 2, 3, 4, 9, 10, and by 11 once the length of the listing is known. That the pattern is bytes, which its type says,
+// is ensured too, so that demand 3 needs nothing but what stands here.
 pub fn search(
     text: &[u8],
     rows: usize,
@@ -111,6 +113,7 @@ pub fn search(
     ensures { λ r. ⌜ now (counts .exit) ≡ countsAfterSearch (now (text .entry)) rows columns (now (pattern .entry)) height width (length (now (links .entry))) (now (counts .entry)) (length (now (flags .entry))) ⌝ }
     ensures { λ r. ⌜ now (flags .exit) ≡ flagsAfterSearch (now (text .entry)) rows columns (now (pattern .entry)) height width (length (now (links .entry))) (length (now (counts .entry))) (now (flags .entry)) ⌝ }
     ensures { λ r. ⌜ now (listing .exit) ≡ listingAfterSearch (now (text .entry)) rows columns (now (pattern .entry)) height width (length (now (links .entry))) (length (now (counts .entry))) (length (now (flags .entry))) (now (listing .entry)) ⌝ }
+    ensures { λ r. ⌜ Bytes (now (pattern .entry)) ⌝ }
 {
     let outcome = room_outcome(
         text.len(),

@@ -1,12 +1,14 @@
 -- Document 01, 'Refused by number': the number of each refusal and what it returns besides.
 -- Assumes nothing.
-use mathlib.Core.Path.{_≡_, refl, ap}
+use mathlib.Core.Path.{_≡_, refl, _∙_, ap}
 use Prim.Native.Nat.{ℕ, zero, suc, _≤_, _<_}
 use native.Mathlib.Omega.{arith}
-use mathlib.Core.Bool.{Bool}
+use mathlib.Core.Bool.{Bool, true, false}
 use mathlib.Core.List.{List, [], _∷_, _++_}
+use lib.Dec.{eqb}
 use lib.ListN.{length, drop}
-use Rattle.theory.specs.Test.{pick}
+use borrow.Author.Tests.{ne-eqb}
+use Rattle.theory.specs.Test.{pick, true-false}
 use Rattle.shapes.specs.declared.refusals.Refusal.{Refusal}
 use Rattle.shapes.specs.declared.refusals.Refusal.the-variants.{SizesMissing, SideRange, CellCount, TooLarge, CornerOutside, ListingForm, ListingFalse, TooManyCells, LinksBufferShort, WindowBufferShort, ListingBufferShort, HasOtherImage, HasOtherPreimage, ColumnsDisagree, CursorSpent}
 use Rattle.shapes.specs.declared.refusals.Outcome.{Outcome}
@@ -54,6 +56,16 @@ abbrev pub outcomeNumber : Outcome → ℕ
 outcomeNumber Accepted = 0
 outcomeNumber (Refused why) = numberOf why
 
+-- document 01's values of an outcome: what is returned besides the number
+abbrev pub outcomeValues : Outcome → List ℕ
+outcomeValues Accepted = []
+outcomeValues (Refused why) = valuesOf why
+
+-- an outcome with that number, and nothing returned besides it
+pub record Ends (number : ℕ) (o : Outcome) : Type 0 where
+  pub number-is : outcomeNumber o ≡ number
+  pub values-are : outcomeValues o ≡ []
+
 -- the number of the refusal unless the test passes, and otherwise what comes after; 0 stands for accepted. A chain of these is document 01's
 -- order of refusals: each number is given when its test fails and every earlier one passes, and at no other time.
 abbrev pub unless : Bool → ℕ → ℕ → ℕ
@@ -82,23 +94,49 @@ number-positive HasOtherPreimage = omega arith
 number-positive ColumnsDisagree = omega arith
 number-positive (CursorSpent at) = omega arith
 
--- the refusals of a shape return nothing besides their number
+-- 6, 7, 11 and 15 return something besides their number, and no other does
+abbrev pub returnsMore : ℕ → Bool
+returnsMore n = pick (eqb n 6) true (pick (eqb n 7) true (pick (eqb n 11) true (eqb n 15)))
+
+pub values-none : (why : Refusal) → returnsMore (numberOf why) ≡ false → valuesOf why ≡ []
+values-none SizesMissing h = refl
+values-none SideRange h = refl
+values-none CellCount h = refl
+values-none TooLarge h = refl
+values-none CornerOutside h = refl
+values-none (ListingForm at) h = absurd (true-false refl h)
+values-none (ListingFalse at) h = absurd (true-false refl h)
+values-none TooManyCells h = refl
+values-none LinksBufferShort h = refl
+values-none WindowBufferShort h = refl
+values-none (ListingBufferShort needed) h = absurd (true-false refl h)
+values-none HasOtherImage h = refl
+values-none HasOtherPreimage h = refl
+values-none ColumnsDisagree h = refl
+values-none (CursorSpent at) h = absurd (true-false refl h)
+
+-- the refusals of a shape are among these
 pub no-values : (why : Refusal) → numberOf why ≤ 5 → valuesOf why ≡ []
-no-values SizesMissing h = refl
-no-values SideRange h = refl
-no-values CellCount h = refl
-no-values TooLarge h = refl
-no-values CornerOutside h = refl
-no-values (ListingForm at) h = absurd (omega arith)
-no-values (ListingFalse at) h = absurd (omega arith)
-no-values TooManyCells h = refl
-no-values LinksBufferShort h = refl
-no-values WindowBufferShort h = refl
-no-values (ListingBufferShort needed) h = absurd (omega arith)
-no-values HasOtherImage h = refl
-no-values HasOtherPreimage h = refl
-no-values ColumnsDisagree h = refl
-no-values (CursorSpent at) h = absurd (omega arith)
+no-values why h =
+    values-none why
+    (rw (ne-eqb (numberOf why) 6 (λ e. absurd (omega arith)), ne-eqb (numberOf why) 7 (λ e. absurd (omega arith)), ne-eqb (numberOf why) 11 (λ e. absurd (omega arith)))
+    (ne-eqb (numberOf why) 15 (λ e. absurd (omega arith))))
+
+-- a chain whose numbers return nothing more
+pub unless-plain : (ok : Bool) (number after : ℕ) → returnsMore number ≡ false → returnsMore after ≡ false → returnsMore (unless ok number after) ≡ false
+unless-plain true number after h k = k
+unless-plain false number after h k = h
+
+-- so an outcome with such a number has no values
+pub ends-plain : (o : Outcome) (number : ℕ) → outcomeNumber o ≡ number → returnsMore number ≡ false → Ends number o
+ends-plain o number e h = record { number-is = e; values-are = go o e }
+  where
+    go : (o : Outcome) → outcomeNumber o ≡ number → outcomeValues o ≡ []
+    go Accepted e = refl
+    go (Refused why) e = values-none why (ap returnsMore e ∙ h)
+
+pub ends-accepted : (number : ℕ) → 0 ≡ number → Ends number Accepted
+ends-accepted number e = record { number-is = e; values-are = refl }
 
 -- the number of an outcome whose case is known
 pub refused-positive : (o : Outcome) {why : Refusal} → o ≡ Refused why → 0 < outcomeNumber o

@@ -8,7 +8,7 @@ use native.Mathlib.Nat.{mul-le-mul}
 use native.Mathlib.Omega.{arith}
 use lib.Dec.{eqb, leb}
 use Rattle.theory.specs.Test.{Tested, both, tested-iff, eq-tested, le-tested, both-tested, says-true, is-true}
-use Rattle.shapes.specs.Refusals.{unless}
+use Rattle.shapes.specs.Refusals.{unless, returnsMore, unless-plain}
 
 -- a side is from 1 to 255
 pub record Side (n : ℕ) : Type 0 where
@@ -121,24 +121,6 @@ three-refused true false c after h = refl
 three-refused false b c after h = refl
 
 module _ (cellsGood : Bool) (rows columns height width : ℕ) where
-  -- nothing of 2, 3, 4 is refused exactly if sides, cells and size are good, and then what comes after decides
-  pub shape-passed : shapeThen cellsGood rows columns height width 0 ≡ 0 → Sized rows columns height width × (cellsGood ≡ true)
-  unfolding shapeThen
-  shape-passed e =
-      let p = one-passed (goodSides rows columns height width) 2 _ (omega arith) e in
-      let q = two-passed cellsGood (fits rows columns height width) 3 4 (omega arith) (omega arith) (p .1) in
-      (record { sides = says-true (good-sides rows columns height width) (p .0); fitting = says-true (fits-tested rows columns height width) (q .1) }, q .0)
-
-  pub shape-passes : Sized rows columns height width → cellsGood ≡ true → (after : ℕ) → shapeThen cellsGood rows columns height width after ≡ after
-  unfolding shapeThen
-  shape-passes s e after = rw (is-true (good-sides rows columns height width) (s .sides), e, is-true (fits-tested rows columns height width) (s .fitting))
-
-  -- what is refused is refused whatever comes after
-  pub shape-refused : (after : ℕ) → 0 < shapeThen cellsGood rows columns height width 0
-      → shapeThen cellsGood rows columns height width after ≡ shapeThen cellsGood rows columns height width 0
-  unfolding shapeThen
-  shape-refused after h = three-refused (goodSides rows columns height width) cellsGood (fits rows columns height width) after h
-
   -- each number where its test fails and the earlier ones pass
   module _ (after : ℕ) where
     pub sides-refused : goodSides rows columns height width ≡ false → shapeThen cellsGood rows columns height width after ≡ 2
@@ -158,6 +140,31 @@ module _ (cellsGood : Bool) (rows columns height width : ℕ) where
         → shapeThen cellsGood rows columns height width after ≡ after
     unfolding shapeThen
     none-refused a b c = rw (a, b, c)
+
+  -- nothing of 2, 3, 4 is refused exactly if sides, cells and size are good, and then what comes after decides
+  pub shape-passed : shapeThen cellsGood rows columns height width 0 ≡ 0 → Sized rows columns height width × (cellsGood ≡ true)
+  unfolding shapeThen
+  shape-passed e =
+      let p = one-passed (goodSides rows columns height width) 2 _ (omega arith) e in
+      let q = two-passed cellsGood (fits rows columns height width) 3 4 (omega arith) (omega arith) (p .1) in
+      (record { sides = says-true (good-sides rows columns height width) (p .0); fitting = says-true (fits-tested rows columns height width) (q .1) }, q .0)
+
+  pub shape-passes : Sized rows columns height width → cellsGood ≡ true → (after : ℕ) → shapeThen cellsGood rows columns height width after ≡ after
+  unfolding shapeThen
+  shape-passes s e after = rw (is-true (good-sides rows columns height width) (s .sides), e, is-true (fits-tested rows columns height width) (s .fitting))
+
+  -- what is refused is refused whatever comes after
+  pub shape-refused : (after : ℕ) → 0 < shapeThen cellsGood rows columns height width 0
+      → shapeThen cellsGood rows columns height width after ≡ shapeThen cellsGood rows columns height width 0
+  unfolding shapeThen
+  shape-refused after h = three-refused (goodSides rows columns height width) cellsGood (fits rows columns height width) after h
+
+  -- none of them returns anything besides its number
+  pub shape-plain : (after : ℕ) → returnsMore after ≡ false → returnsMore (shapeThen cellsGood rows columns height width after) ≡ false
+  unfolding shapeThen
+  shape-plain after h =
+      unless-plain (goodSides rows columns height width) 2 (unless cellsGood 3 (unless (fits rows columns height width) 4 after)) refl
+      (unless-plain cellsGood 3 (unless (fits rows columns height width) 4 after) refl (unless-plain (fits rows columns height width) 4 after refl h))
 
 pub shape-then-zero : (cellsGood : Bool) (rows columns height width after : ℕ) → shapeThen cellsGood rows columns height width after ≡ 0
     → (shapeThen cellsGood rows columns height width 0 ≡ 0) × (after ≡ 0)

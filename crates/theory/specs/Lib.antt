@@ -1,4 +1,5 @@
 pub mod Test
+pub mod Bytes
 pub mod First
 pub mod Table
 pub mod Join

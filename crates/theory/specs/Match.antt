@@ -5,6 +5,7 @@ pub mod Even
 pub mod Answers
 pub mod Images
 pub mod Relation
+pub mod Renaming
 pub mod Ext
 use mathlib.Core.Path.{_≡_}
 use mathlib.Core.Bool.{Bool, true, false, not}

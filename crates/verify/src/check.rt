@@ -2,6 +2,7 @@
 ghost use mathlib.Core.Path.{_≡_};
 ghost use Prim.Native.Nat.{_*_};
 ghost use lib.ListN.{length};
+ghost use Rattle.theory.specs.Bytes.{Bytes};
 ghost use Rattle.grid.specs.Counts.{ShapeOf};
 ghost use Rattle.verify.specs.Check.{closingFrom, listingAnswer, Checks};
 ghost use Rattle.claims.specs.Passages.{courseOf};
@@ -71,7 +72,8 @@ fn check_listing(text: &[u8], pattern: &[u8], s: Shape, listing: &[u8]) -> Check
     }
 }
 
-// Checks a listing for a text and a pattern. Refused by 2, 3, 4, then by 6 or 7 with the place of the first bad record.
+// Checks a listing for a text and a pattern. Refused by 2, 3, 4, then by 6 or 7 with the place of the first bad record. That pattern and listing are bytes,
+// which their types say, is ensured too, so that demand 3 needs nothing but what stands here.
 pub fn check(
     text: &[u8],
     rows: usize,
@@ -82,6 +84,7 @@ pub fn check(
     listing: &[u8],
 ) -> Checked
     ensures { λ r. ⌜ Checks (now (text .entry)) rows columns (now (pattern .entry)) height width (now (listing .entry)) r ⌝ }
+    ensures { λ r. ⌜ Bytes (now (pattern .entry)) × Bytes (now (listing .entry)) ⌝ }
 {
     let outcome = pattern_outcome(text.len(), rows, columns, pattern.len(), height, width);
     match outcome {

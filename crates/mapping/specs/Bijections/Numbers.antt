@@ -7,7 +7,11 @@ use native.Mathlib.Omega.{arith}
 use Rattle.theory.specs.Test.{Tested, is-true, says-true}
 use Rattle.theory.specs.Columns.{Agree, Free, free}
 use Rattle.theory.specs.Columns.Agreement.{agree-tested, free-tested}
+use Rattle.shapes.specs.Refusals.{Ends}
 use Rattle.shapes.specs.Shapes.{one-passed, two-passed}
+use Rattle.shapes.specs.declared.refusals.Refusal.the-variants.{HasOtherImage, HasOtherPreimage, ColumnsDisagree}
+use Rattle.shapes.specs.declared.refusals.Outcome.{Outcome}
+use Rattle.shapes.specs.declared.refusals.Outcome.the-variants.{Accepted, Refused}
 use Rattle.mapping.specs.declared.bijections.Bijection.{Bijection}
 use Rattle.mapping.specs.Bijections.{goodColumns, paired, inverse, composite, bijectionAfter, pairNumber, invertNumber, composeNumber}
 
@@ -16,9 +20,9 @@ pub good-columns : (b : Bijection) → Tested (Agree (b .forward) (b .backward))
 unfolding goodColumns
 good-columns b = agree-tested (b .forward) (b .backward)
 
--- the number and the bijection are those of an operation that ends with the number due
-abbrev pub Answered : ℕ → Bijection → ℕ → Bijection → Bijection → Type 0
-Answered number answer due new old = (number ≡ due) × (answer ≡ bijectionAfter due new old)
+-- the outcome and the bijection are those of an operation that ends with the number due
+abbrev pub Answered : Outcome → Bijection → ℕ → Bijection → Bijection → Type 0
+Answered outcome answer due new old = Ends due outcome × (answer ≡ bijectionAfter due new old)
 
 -- a may be paired with c
 pub record Pairable (b : Bijection) (a c : ℕ) : Type 0 where
@@ -27,23 +31,23 @@ pub record Pairable (b : Bijection) (a c : ℕ) : Type 0 where
   pub preimage-free : Free (b .backward) c a
 
 module _ (b : Bijection) (a c : ℕ) where
-  pub pair-disagreeing : goodColumns b ≡ false → Answered 14 b (pairNumber b a c) (paired b a c) b
+  pub pair-disagreeing : goodColumns b ≡ false → Answered (Refused ColumnsDisagree) b (pairNumber b a c) (paired b a c) b
   unfolding pairNumber
-  pair-disagreeing e = rw e (refl, refl)
+  pair-disagreeing e = rw e (record { number-is = refl; values-are = refl }, refl)
 
-  pub pair-other-image : goodColumns b ≡ true → free (b .forward) a c ≡ false → Answered 12 b (pairNumber b a c) (paired b a c) b
+  pub pair-other-image : goodColumns b ≡ true → free (b .forward) a c ≡ false → Answered (Refused HasOtherImage) b (pairNumber b a c) (paired b a c) b
   unfolding pairNumber
-  pair-other-image e f = rw (e, f) (refl, refl)
+  pair-other-image e f = rw (e, f) (record { number-is = refl; values-are = refl }, refl)
 
   pub pair-other-preimage : goodColumns b ≡ true → free (b .forward) a c ≡ true → free (b .backward) c a ≡ false
-      → Answered 13 b (pairNumber b a c) (paired b a c) b
+      → Answered (Refused HasOtherPreimage) b (pairNumber b a c) (paired b a c) b
   unfolding pairNumber
-  pair-other-preimage e f g = rw (e, f, g) (refl, refl)
+  pair-other-preimage e f g = rw (e, f, g) (record { number-is = refl; values-are = refl }, refl)
 
   pub pair-accepted : goodColumns b ≡ true → free (b .forward) a c ≡ true → free (b .backward) c a ≡ true
-      → Answered 0 (paired b a c) (pairNumber b a c) (paired b a c) b
+      → Answered Accepted (paired b a c) (pairNumber b a c) (paired b a c) b
   unfolding pairNumber
-  pair-accepted e f g = rw (e, f, g) (refl, refl)
+  pair-accepted e f g = rw (e, f, g) (record { number-is = refl; values-are = refl }, refl)
 
   -- pairing is accepted exactly if a may be paired with c
   pub pair-passed : pairNumber b a c ≡ 0 → Pairable b a c
@@ -65,13 +69,13 @@ module _ (b : Bijection) (a c : ℕ) where
       refl
 
 module _ (b : Bijection) where
-  pub invert-disagreeing : goodColumns b ≡ false → Answered 14 b (invertNumber b) (inverse b) b
+  pub invert-disagreeing : goodColumns b ≡ false → Answered (Refused ColumnsDisagree) b (invertNumber b) (inverse b) b
   unfolding invertNumber
-  invert-disagreeing e = rw e (refl, refl)
+  invert-disagreeing e = rw e (record { number-is = refl; values-are = refl }, refl)
 
-  pub invert-accepted : goodColumns b ≡ true → Answered 0 (inverse b) (invertNumber b) (inverse b) b
+  pub invert-accepted : goodColumns b ≡ true → Answered Accepted (inverse b) (invertNumber b) (inverse b) b
   unfolding invertNumber
-  invert-accepted e = rw e (refl, refl)
+  invert-accepted e = rw e (record { number-is = refl; values-are = refl }, refl)
 
   -- inverting is accepted exactly if the columns agree
   pub invert-passed : invertNumber b ≡ 0 → Agree (b .forward) (b .backward)
@@ -83,17 +87,17 @@ module _ (b : Bijection) where
   invert-passes s = rw (is-true (good-columns b) s) refl
 
 module _ (b d : Bijection) where
-  pub compose-first-disagreeing : goodColumns b ≡ false → Answered 14 b (composeNumber b d) (composite b d) b
+  pub compose-first-disagreeing : goodColumns b ≡ false → Answered (Refused ColumnsDisagree) b (composeNumber b d) (composite b d) b
   unfolding composeNumber
-  compose-first-disagreeing e = rw e (refl, refl)
+  compose-first-disagreeing e = rw e (record { number-is = refl; values-are = refl }, refl)
 
-  pub compose-second-disagreeing : goodColumns b ≡ true → goodColumns d ≡ false → Answered 14 b (composeNumber b d) (composite b d) b
+  pub compose-second-disagreeing : goodColumns b ≡ true → goodColumns d ≡ false → Answered (Refused ColumnsDisagree) b (composeNumber b d) (composite b d) b
   unfolding composeNumber
-  compose-second-disagreeing e f = rw (e, f) (refl, refl)
+  compose-second-disagreeing e f = rw (e, f) (record { number-is = refl; values-are = refl }, refl)
 
-  pub compose-accepted : goodColumns b ≡ true → goodColumns d ≡ true → Answered 0 (composite b d) (composeNumber b d) (composite b d) b
+  pub compose-accepted : goodColumns b ≡ true → goodColumns d ≡ true → Answered Accepted (composite b d) (composeNumber b d) (composite b d) b
   unfolding composeNumber
-  compose-accepted e f = rw (e, f) (refl, refl)
+  compose-accepted e f = rw (e, f) (record { number-is = refl; values-are = refl }, refl)
 
   -- composing is accepted exactly if the columns of both agree
   pub compose-passed : composeNumber b d ≡ 0 → Agree (b .forward) (b .backward) × Agree (d .forward) (d .backward)

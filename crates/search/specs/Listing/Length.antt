@@ -1,22 +1,19 @@
 -- The length of the listing: 3 + 3d bytes for each window found, 7 for each refused, and 5 for the closing (`length-listing`).
 -- Assumes nothing.
-use mathlib.Core.Path.{_≡_, refl, _∙_}
-use mathlib.Core.Bool.{Bool, true, false, not}
-use mathlib.Core.List.{List, [], _∷_}
-use Prim.Native.Nat.{ℕ, zero, suc, _+_, _*_, _<_}
-use native.Mathlib.Nat.{suc-mul}
-use native.Mathlib.Numerals.{add-one}
-use native.Mathlib.Omega.{arith}
+use mathlib.Core.Path.{_≡_, _∙_}
+use mathlib.Core.Bool.{Bool, not}
+use mathlib.Core.List.{List}
+use Prim.Native.Nat.{ℕ, _+_, _*_, _<_}
 use lib.ListN.{length, getD, length-append}
 use Rattle.theory.specs.Test.{pick}
-use Rattle.theory.specs.Join.{joined, joined-zero, joined-suc}
+use Rattle.theory.specs.Join.{joined}
 use Rattle.theory.specs.Count.{count, length-members}
 use Rattle.theory.specs.Match.{Answer, matched, mismatched, isMatch}
 use Rattle.sets.specs.Symbols.{symbolsOf}
 use Rattle.grid.specs.Distinct.{contains, distinct}
 use Rattle.grid.specs.Distinct.Sets.{distinct-count}
-use Rattle.listing.specs.Entries.{entryOf, bytesAll, bytes-none, bytes-append, length-found, length-refused}
-use Rattle.listing.specs.declared.records.Record.the-variants.{Closing}
+use Rattle.listing.specs.Entries.{entryOf, bytesAll, bytes-append, length-found, length-refused}
+use Rattle.listing.specs.Lengths.{length-joined, length-closing}
 use Rattle.flags.specs.Flags.{answerAt}
 use Rattle.search.specs.Listing.{entryOfWindow, foundIn, refusedIn, searchRecords, searchListing, neededLength}
 
@@ -30,12 +27,6 @@ pub length-entry : (row column width : ℕ) (symbols : List ℕ) (image : ℕ �
 length-entry row column width symbols image matched = length-found row column width symbols image
 length-entry row column width symbols image (mismatched side q p) = length-refused row column width symbols image side q p
 
--- one window more
-add-entry : (b : Bool) (found refused d all entry : ℕ) → all ≡ found * d + 7 * refused → entry ≡ pick b d 7
-    → all + entry ≡ pick b (found + 1) found * d + 7 * pick (not b) (refused + 1) refused
-add-entry true found refused d all entry e h = rw (add-one found) (omega (arith, suc-mul found d))
-add-entry false found refused d all entry e h = omega arith
-
 module _ (text : List ℕ) (columns : ℕ) (pattern : List ℕ) (height width : ℕ) where
   abbrev matchAt : ℕ → Bool
   matchAt k = isMatch (answerAt text columns pattern height width k)
@@ -47,20 +38,7 @@ module _ (text : List ℕ) (columns : ℕ) (pattern : List ℕ) (height width : 
   -- the bytes of the first n windows
   pub length-entries : (n : ℕ) → length (bytesAll (joined (entryOfWindow text columns pattern height width) n))
       ≡ count matchAt n * (3 + 3 * length (symbolsOf pattern)) + 7 * count (λ k. not (matchAt k)) n
-  unfolding count
-  length-entries zero = rw (joined-zero (entryOfWindow text columns pattern height width), bytes-none) (omega arith)
-  length-entries (suc n) =
-      rw (
-        joined-suc (entryOfWindow text columns pattern height width) n,
-        bytes-append (joined (entryOfWindow text columns pattern height width) n) (entryOfWindow text columns pattern height width n),
-        length-append (bytesAll (joined (entryOfWindow text columns pattern height width) n)) (bytesAll (entryOfWindow text columns pattern height width n)),
-      )
-      (add-entry (matchAt n) (count matchAt n) (count (λ k. not (matchAt k)) n) (3 + 3 * length (symbolsOf pattern)) _ _ (length-entries n) (length-window n))
-
--- the closing has five bytes
-length-closing : (found refused : ℕ) → length (bytesAll (Closing found refused ∷ [])) ≡ 5
-unfolding bytesAll
-length-closing found refused = refl
+  length-entries n = length-joined (entryOfWindow text columns pattern height width) matchAt (3 + 3 * length (symbolsOf pattern)) n (λ k h. length-window k)
 
 -- the listing is as long as document 01 says
 pub length-listing : (text : List ℕ) (rows columns : ℕ) (pattern : List ℕ) (height width : ℕ) → ((k : ℕ) → getD pattern k 0 < 256)

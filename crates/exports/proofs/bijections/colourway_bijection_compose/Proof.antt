@@ -29,7 +29,7 @@ returns c =
     let answer = c .before .before .before .compose .ensures in
     let held = c .before .before .before .before .bijection-in2 .ensures in
     let other = c .before .before .before .before .before .before .before .bijection-in .ensures in (
-      c .write-answer .ensures .0 ∙ answer .0 ∙ both-held composeNumber held other,
+      c .write-answer .ensures .0 ∙ answer .0 .number-is ∙ both-held composeNumber held other,
       c .write-answer .ensures .1 ∙ answer .1 ∙ both-held composeAfter held other,
     )
 

@@ -20,7 +20,7 @@ returns : tie.Need-returns
 returns c =
     let answer = c .before .before .before .invert .ensures in
     let held = c .before .before .before .before .bijection-in .ensures in (
-      c .write-answer .ensures .0 ∙ answer .0 ∙ ap invertNumber held,
+      c .write-answer .ensures .0 ∙ answer .0 .number-is ∙ ap invertNumber held,
       c .write-answer .ensures .1 ∙ answer .1 ∙ ap invertAfter held,
     )
 

@@ -22,7 +22,7 @@ returns c =
     let answer = c .before .before .before .pair .ensures in
     let held = c .before .before .before .before .bijection-in .ensures in
     let args = c .before .before .before .before .before .before .before .args in (
-      c .write-answer .ensures .0 ∙ answer .0 ∙ ap (λ (b : Bijection). pairNumber b (args .a) (args .c)) held,
+      c .write-answer .ensures .0 ∙ answer .0 .number-is ∙ ap (λ (b : Bijection). pairNumber b (args .a) (args .c)) held,
       c .write-answer .ensures .1 ∙ answer .1 ∙ ap (λ (b : Bijection). pairAfter b (args .a) (args .c)) held,
     )
 

@@ -19,7 +19,7 @@ checked-totals-requires c κs = search needs
 returns : tie.Need-returns
 returns c =
     let a = c .before .before .before .before .before .before .before .args in
-    let e = c .before .before .before .check .ensures in (
+    let e = c .before .before .before .check .ensures .0 in (
       c .before .before .checked-number .ensures ∙ e .number-is,
       c .checked-totals .ensures ∙ check-totals (now (a .text)) (a .rows) (a .columns) (now (a .pattern)) (a .height) (a .width) (now (a .listing)) _ (now (a .totals)) e,
     )

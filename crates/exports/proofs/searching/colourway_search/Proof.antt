@@ -36,7 +36,7 @@ returns c =
       number,
       (
         c .totals-in .ensures ∙ answer-totals _ _ (now (a .text)) (a .rows) (a .columns) (now (a .pattern)) (a .height) (a .width) _ (now (a .totals)) number (e .0),
-        e .1,
+        (e .1 .0, (e .1 .1 .0, (e .1 .1 .1 .0, e .1 .1 .1 .1 .0))),
       ),
     )
 

@@ -16,7 +16,7 @@ same-length c = search needs
 
 returns : tie.Need-returns
 returns c = (
-  c .outcome-number .ensures ∙ c .before .before .before .strip-links .ensures .0,
+  c .outcome-number .ensures ∙ c .before .before .before .strip-links .ensures .0 .number-is,
   c .before .before .before .strip-links .ensures .1,
 )
 

@@ -4,8 +4,8 @@ use mathlib.Core.Path.{_≡_, sym, _∙_, subst}
 use Prim.Native.Nat.{ℕ, _<_}
 use denote.Ref.{now}
 use lib.ListN.{length}
-use Rattle.shapes.specs.Refusals.{refused-positive, accepted-zero}
-use Rattle.grid.specs.Counts.{countsNumber, counts-kept, counts-passed, counts-written}
+use Rattle.shapes.specs.Refusals.{refused-positive, accepted-zero, ends-plain, ends-accepted}
+use Rattle.grid.specs.Counts.{countsNumber, counts-plain, counts-kept, counts-passed, counts-written}
 use borrow.Author.Needs.{needs}
 use Rattle.grid.proofs.counts.distinct_counts.Statement.{statement}
 use Rattle.grid.proofs.counts.distinct_counts.Tie as tie
@@ -26,7 +26,7 @@ enum-told-2 c = search needs
 
 returns : tie.Need-returns
 returns c = (
-  c .before .before .counts-outcome .ensures,
+  ends-plain _ _ (c .before .before .counts-outcome .ensures) (counts-plain _ _ _ _ _ _),
   counts-kept _ _ _ _ _ _ (subst (λ (n : ℕ). 0 < n) (c .before .before .counts-outcome .ensures) (refused-positive _ (c .enum-told2 .given .1))),
 )
 
@@ -39,7 +39,7 @@ same-length c = search needs
 returns-2 : tie.Need-returns-2
 returns-2 c =
     let o = c .before .before .before .before .before .before .before .before .before in
-    (sym (zero-number (c .before .before .before .before)), counts-written (now (o .args .text)) (record { rows = o .args .rows; columns = o .args .columns; height = o .args .height; width = o .args .width }) _ _ (zero-number (c .before .before .before .before)) (c .before .before .all-counts .ensures))
+    (ends-accepted _ (sym (zero-number (c .before .before .before .before))), counts-written (now (o .args .text)) (record { rows = o .args .rows; columns = o .args .columns; height = o .args .height; width = o .args .width }) _ _ (zero-number (c .before .before .before .before)) (c .before .before .all-counts .ensures))
 
 pub distinct-counts-spec : {M : Type 1} → statement M
 distinct-counts-spec =

@@ -4,8 +4,8 @@ use mathlib.Core.Path.{_≡_, sym, _∙_, subst}
 use Prim.Native.Nat.{ℕ, _<_}
 use denote.Ref.{now}
 use lib.ListN.{length}
-use Rattle.shapes.specs.Refusals.{refused-positive, accepted-zero}
-use Rattle.grid.specs.Strips.{linksNumber, links-kept}
+use Rattle.shapes.specs.Refusals.{refused-positive, accepted-zero, ends-plain, ends-accepted}
+use Rattle.grid.specs.Strips.{linksNumber, links-plain, links-kept}
 use Rattle.grid.specs.Strips.Rows.{strip-of, links-written}
 use borrow.Author.Needs.{needs}
 use Rattle.grid.proofs.strips.strip_links.Statement.{statement}
@@ -27,7 +27,7 @@ enum-told-2 c = search needs
 
 returns : tie.Need-returns
 returns c = (
-  c .before .before .strip-outcome .ensures,
+  ends-plain _ _ (c .before .before .strip-outcome .ensures) (links-plain _ _ _ _ _ _),
   links-kept _ _ _ _ _ _ (subst (λ (n : ℕ). 0 < n) (c .before .before .strip-outcome .ensures) (refused-positive _ (c .enum-told2 .given .1))),
 )
 
@@ -42,7 +42,7 @@ same-length c = search needs
 returns-2 : tie.Need-returns-2
 returns-2 c =
     let o = c .before .before .before .before .before .before .before .before .before in
-    (sym (zero-number (c .before .before .before .before)), links-written (now (o .args .text)) (record { rows = o .args .rows; columns = o .args .columns; left = o .args .left; width = o .args .width }) _ _ (zero-number (c .before .before .before .before)) (c .before .before .link-rows .ensures))
+    (ends-accepted _ (sym (zero-number (c .before .before .before .before))), links-written (now (o .args .text)) (record { rows = o .args .rows; columns = o .args .columns; left = o .args .left; width = o .args .width }) _ _ (zero-number (c .before .before .before .before)) (c .before .before .link-rows .ensures))
 
 pub strip-links-spec : {M : Type 1} → statement M
 strip-links-spec =

@@ -2,8 +2,10 @@
 -- Assumes nothing.
 use mathlib.Core.Path.{_≡_, sym, ap, _∙_, subst}
 use Prim.Native.Nat.{ℕ, _<_}
+use native.Mathlib.Omega.{arith}
 use lib.ListN.{length}
 use denote.Ref.{now}
+use Rattle.theory.specs.Bytes.{Bytes}
 use Rattle.shapes.specs.Refusals.{outcomeNumber, accepted-zero, refused-positive}
 use Rattle.search.specs.Search.{roomNumber}
 use Rattle.search.specs.Search.Accepted.{room-passed}
@@ -15,6 +17,10 @@ use Rattle.search.proofs.search.search.Tie as tie
 -- where the call begins
 abbrev entry : tie.After-room-outcome → tie.Start
 entry c = c .before .before .before .before .before .before .before
+
+-- the pattern is bytes, as its type says
+bytes : (c : tie.After-room-outcome) → Bytes (now (entry c .args .pattern))
+bytes c k = omega (arith, c .before .before .before .before .before .shared-slice-known2 .given k)
 
 -- the number of 2, 3, 4, 9, 10 for the call's arguments
 abbrev number : tie.Start → ℕ
@@ -55,7 +61,7 @@ returns c =
           counts-kept (now (a .text)) (a .rows) (a .columns) (now (a .pattern)) (a .height) (a .width) (now (a .links)) (now (a .counts)) (now (a .flags)) (now (a .listing)) p,
           (
             flags-kept (now (a .text)) (a .rows) (a .columns) (now (a .pattern)) (a .height) (a .width) (now (a .links)) (now (a .counts)) (now (a .flags)) (now (a .listing)) p,
-            listing-kept (now (a .text)) (a .rows) (a .columns) (now (a .pattern)) (a .height) (a .width) (now (a .links)) (now (a .counts)) (now (a .flags)) (now (a .listing)) p,
+            (listing-kept (now (a .text)) (a .rows) (a .columns) (now (a .pattern)) (a .height) (a .width) (now (a .links)) (now (a .counts)) (now (a .flags)) (now (a .listing)) p, bytes (c .before .before .before)),
           ),
         ),
       ),
@@ -85,7 +91,10 @@ returns-2 c =
           counts-written (now (a .text)) (a .rows) (a .columns) (now (a .pattern)) (a .height) (a .width) (now (a .links)) (now (a .counts)) (now (a .flags)) (now (a .listing)) z _ (e .1 .1 .0),
           (
             flags-written (now (a .text)) (a .rows) (a .columns) (now (a .pattern)) (a .height) (a .width) (now (a .links)) (now (a .counts)) (now (a .flags)) (now (a .listing)) z _ (e .1 .1 .1 .0),
-            listing-written (now (a .text)) (a .rows) (a .columns) (now (a .pattern)) (a .height) (a .width) (now (a .links)) (now (a .counts)) (now (a .flags)) (now (a .listing)) z _ (e .1 .1 .1 .1),
+            (
+              listing-written (now (a .text)) (a .rows) (a .columns) (now (a .pattern)) (a .height) (a .width) (now (a .links)) (now (a .counts)) (now (a .flags)) (now (a .listing)) z _ (e .1 .1 .1 .1),
+              bytes (c .before .before .before .before .before .before .before .before .before .before .before .before .before .before .before),
+            ),
           ),
         ),
       ),

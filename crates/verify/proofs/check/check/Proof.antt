@@ -1,15 +1,21 @@
 -- `check::check` meets its contract: refused as the shape's own check says, with nothing besides; else the walk's answer is the check's.
 -- Assumes nothing.
 use mathlib.Core.Path.{_≡_, sym, _∙_, ap}
+use native.Mathlib.Omega.{arith}
 use lib.ListN.{length}
 use borrow.Author.Needs.{needs}
 use denote.Ref.{now}
+use Rattle.theory.specs.Bytes.{Bytes}
 use Rattle.theory.specs.Test.{both}
 use Rattle.shapes.specs.Refusals.{numberOf, outcomeNumber, accepted-zero}
 use Rattle.shapes.specs.Shapes.{shapeThen, goodCells}
 use Rattle.verify.specs.Answers.{check-shape, check-walked, check-refused}
 use Rattle.verify.proofs.check.check.Statement.{statement}
 use Rattle.verify.proofs.check.check.Tie as tie
+
+-- pattern and listing are bytes, as their types say
+bytes : (c : tie.After-pattern-outcome) → Bytes (now (c .before .before .before .before .args .pattern)) × Bytes (now (c .before .before .before .before .args .listing))
+bytes c = ((λ k. omega (arith, c .before .before .shared-slice-known2 .given k)), (λ k. omega (arith, c .before .shared-slice-known3 .given k)))
 
 -- 2, 3, 4 refuse nothing
 zero-number : (c : tie.After-enum-told) → let a = c .before .before .before .before .before .before .args in
@@ -39,12 +45,12 @@ check-listing-requires c κs =
 returns : tie.Need-returns
 returns c =
     let a = c .before .before .before .before .before .before .before .args in
-    check-refused (now (a .text)) (a .rows) (a .columns) (now (a .pattern)) (a .height) (a .width) (now (a .listing)) _ (refused-number (c .before))
+    (check-refused (now (a .text)) (a .rows) (a .columns) (now (a .pattern)) (a .height) (a .width) (now (a .listing)) _ (refused-number (c .before)), bytes (c .before .before .before))
 
 returns-2 : tie.Need-returns-2
 returns-2 c =
     let a = c .before .before .before .before .before .before .before .args in
-    check-walked (now (a .text)) (a .rows) (a .columns) (now (a .pattern)) (a .height) (a .width) (now (a .listing)) _ (zero-number (c .before)) (c .check-listing .ensures)
+    (check-walked (now (a .text)) (a .rows) (a .columns) (now (a .pattern)) (a .height) (a .width) (now (a .listing)) _ (zero-number (c .before)) (c .check-listing .ensures), bytes (c .before .before .before))
 
 pub check-spec : {M : Type 1} → statement M
 check-spec =
