@@ -3,11 +3,12 @@
 pub mod Walks
 pub mod Rows
 pub mod Scans
+pub mod RowScans
 pub mod Accepted
 pub mod Verdicts
 use mathlib.Core.Path.{_≡_}
 use mathlib.Core.List.{List, [], _∷_}
-use Prim.Native.Nat.{ℕ, zero, suc, _+_, _*_, _/_, _%_, _≤_, _<_}
+use Prim.Native.Nat.{ℕ, zero, suc, _+_, _*_, _≤_, _<_}
 use lib.ListN.{length, getD, replicate}
 use Rattle.theory.specs.Test.{pick, both}
 use Rattle.theory.specs.Match.{Answer, matched, mismatched, answerOf, column}
@@ -17,7 +18,6 @@ use Rattle.shapes.specs.Windows.{windowAt}
 use Rattle.mapping.specs.Bijections.{emptyBijection}
 use Rattle.mapping.specs.declared.bijections.Bijection.{Bijection}
 use Rattle.matching.specs.declared.compare.WindowPlace.{WindowPlace}
-use Rattle.matching.specs.declared.compare.Walk.{Walk}
 use Rattle.matching.specs.declared.compare.Verdict.{Verdict}
 use Rattle.matching.specs.declared.compare.WindowAnswer.{WindowAnswer}
 use Rattle.matching.specs.declared.compare.Verdict.the-variants.{Match, Mismatch, Refused}
@@ -92,17 +92,6 @@ pub record Placed (text : List ℕ) (v : WindowPlace) : Type 0 where
   pub down : (v .row + v .height) * v .columns ≤ length text
   pub across : v .column + v .width ≤ v .columns
   pub small : length text ≤ 65025
-
--- what a walk over a window's cells needs: its rows are not wider than the text, and its places are small
-pub record Walkable (v : WindowPlace) : Type 0 where
-  pub some : 0 < v .width
-  pub across : v .column + v .width ≤ v .columns
-  pub start-small : v .row * v .columns + v .columns ≤ 65025
-
--- the walk stands at position p: its place in the text, and its column in the window
-pub record WalkAt (v : WindowPlace) (p : ℕ) (k : Walk) : Type 0 where
-  pub at-is : k .at ≡ (v .row + p / v .width) * v .columns + v .column + p % v .width
-  pub column-is : k .column ≡ p % v .width
 
 -- no symbol has an image
 abbrev pub noImages : List ℕ

@@ -1,17 +1,23 @@
-// The one-window question: a pattern against the window of its size at a corner of a text. The window is read in place.
+// The one-window question: a pattern against the window of its size at a corner of a text. The window is read in place, row by row, through its view.
 ghost use mathlib.Core.Path.{_≡_};
-ghost use Prim.Native.Nat.{ℕ, _+_, _*_, _≤_, _<_};
+ghost use Prim.Native.Nat.{_<_};
+ghost use lib.Dec.{ltb};
 ghost use lib.ListN.{length};
+ghost use Rattle.theory.specs.Test.{pick};
+ghost use Rattle.theory.specs.First.{first};
 ghost use Rattle.theory.specs.Match.{mismatchBy, earliest, firstEnd, mismatchEnding, answerOf, column};
 ghost use Rattle.theory.specs.Match.Images.{agreesBy};
 ghost use Rattle.shapes.specs.Refusals.{outcomeNumber};
-ghost use Rattle.matching.specs.Compare.{patternAt, windowOf, cellsOf, Placed, Walkable, WalkAt, noImages, verdictOf, windowNumber, bijectionBeside, Answers};
+ghost use Rattle.matching.specs.Compare.{patternAt, windowOf, cellsOf, Placed, noImages, verdictOf, windowNumber, bijectionBeside, Answers};
+ghost use Rattle.matching.specs.Compare.RowScans.{RowEnds, mismatchIn};
 use mapping::bijections::Bijection;
 use mapping::bijections::empty;
 use shapes::refusals::Outcome;
 use shapes::refusals::Refusal;
 use shapes::shapes::corner_inside;
 use shapes::shapes::pattern_outcome;
+use view::window_row;
+use view::window_symbol;
 
 // A window of a text: the text's row width, the window's corner and its sides.
 pub struct WindowPlace {
@@ -20,12 +26,6 @@ pub struct WindowPlace {
     pub column: usize,
     pub height: usize,
     pub width: usize,
-}
-
-// Where a walk over a window's cells stands: its place in the text, and its column in the window.
-pub struct Walk {
-    pub at: usize,
-    pub column: usize,
 }
 
 // What is asked of a window.
@@ -65,33 +65,27 @@ fn may_pair(f: u16, g: u16, c: u8) -> bool
     }
 }
 
-// The first cell of a window.
-fn first_cell(v: WindowPlace) -> Walk
-    requires { ⌜ Walkable v ⌝ }
-    ensures { λ r. ⌜ WalkAt v 0 r ⌝ }
+// The first cell of a row at which a mismatch ends, or the row's length where none does: cells is the pattern's row, row the window's. The columns, which
+// come with the pairs of the positions before the row, then have those of the cells before it as well.
+fn scan_row(row: &[u8], cells: &[u8], forward: &mut [u16; 256], backward: &mut [u16; 256]) -> usize
+    requires { ⌜ (length (now cells) ≡ length (now row)) × (length (now forward) ≡ 256) × (length (now backward) ≡ 256) ⌝ }
+    ensures { λ r. ⌜ RowEnds (now (row .entry)) (now (cells .entry)) (now (forward .entry)) (now (backward .entry)) r (now (forward .exit)) (now (backward .exit)) ⌝ }
 {
-    Walk {
-        at: v.row * v.columns + v.column,
-        column: 0,
+    let n = row.len();
+    let mut p = 0;
+    while p < n {
+        let a = cells[p];
+        let c = row[p];
+        let i = a as usize;
+        let j = c as usize;
+        if !may_pair(forward[i], backward[j], c) {
+            return p;
+        }
+        forward[i] = c as u16;
+        backward[j] = a as u16;
+        p += 1;
     }
-}
-
-// The next cell: in the same row, or the first of the row below. No position is divided.
-fn next_cell(k: Walk, v: WindowPlace) -> Walk
-    requires { ⌜ Walkable v × (k .at ≤ 65025) × (k .column < v .width) ⌝ }
-    ensures { λ r. ⌜ ((p : ℕ) → WalkAt v p k → WalkAt v (p + 1) r) ⌝ }
-{
-    let column = k.column + 1;
-    if column < v.width {
-        return Walk {
-            at: k.at + 1,
-            column,
-        };
-    }
-    Walk {
-        at: k.at + 1 + (v.columns - v.width),
-        column: 0,
-    }
+    p
 }
 
 // The first position at which a mismatch ends, or the number of cells where none does. The columns, which come empty, then have the pairs
@@ -108,24 +102,20 @@ fn scan(
     ensures { λ r. ⌜ now (forward .exit) ≡ column (patternAt (now (pattern .entry))) (windowOf (now (text .entry)) v) r ⌝ }
     ensures { λ r. ⌜ now (backward .exit) ≡ column (windowOf (now (text .entry)) v) (patternAt (now (pattern .entry))) r ⌝ }
 {
-    let n = v.height * v.width;
-    let mut k = first_cell(v);
-    let mut p = 0;
-    while p < n {
-        let at = k.at;
-        let a = pattern[p];
-        let c = text[at];
-        let i = a as usize;
-        let j = c as usize;
-        if !may_pair(forward[i], backward[j], c) {
-            return p;
+    let height = v.height;
+    let mut from = 0;
+    let mut i = 0;
+    while i < height {
+        let row = window_row(text, v.columns, v.row, v.column, v.width, i);
+        let cells = &pattern[from..from + v.width];
+        let j = scan_row(row, cells, forward, backward);
+        if j < v.width {
+            return from + j;
         }
-        forward[i] = c as u16;
-        backward[j] = a as u16;
-        k = next_cell(k, v);
-        p += 1;
+        from += v.width;
+        i += 1;
     }
-    p
+    from
 }
 
 // The window's symbol at one position.
@@ -133,27 +123,52 @@ pub fn symbol_at(text: &[u8], v: WindowPlace, p: usize) -> u8
     requires { ⌜ Placed (now text) v × (p < cellsOf v) ⌝ }
     ensures { λ r. ⌜ r ≡ windowOf (now (text .entry)) v p ⌝ }
 {
-    text[(v.row + p / v.width) * v.columns + v.column + p % v.width]
+    window_symbol(text, v.columns, v.row, v.column, v.width, p)
 }
 
-// The first position that mismatches with the position later, or later where none does.
+// The first cell of a row that mismatches with a position whose symbols are a and x, or the row's length where none does.
+fn earlier_in_row(row: &[u8], cells: &[u8], a: u8, x: u8) -> usize
+    requires { ⌜ length (now cells) ≡ length (now row) ⌝ }
+    ensures { λ r. ⌜ r ≡ first (mismatchIn (now (row .entry)) (now (cells .entry)) a x) (length (now (row .entry))) ⌝ }
+{
+    let mut q = 0;
+    while q < row.len() {
+        if mismatch(cells[q], a, row[q], x) {
+            return q;
+        }
+        q += 1;
+    }
+    q
+}
+
+// The lesser of two numbers.
+fn lesser(m: usize, n: usize) -> usize
+    ensures { λ r. ⌜ r ≡ pick (ltb m n) m n ⌝ }
+{
+    if m < n { m } else { n }
+}
+
+// The first position that mismatches with the position later, or later where none does. The row of later is cut there.
 pub fn earlier_cell(text: &[u8], v: WindowPlace, pattern: &[u8], later: usize) -> usize
     requires { ⌜ Placed (now text) v × (length (now pattern) ≡ cellsOf v) × (later < cellsOf v) ⌝ }
     ensures { λ r. ⌜ r ≡ earliest (patternAt (now (pattern .entry))) (windowOf (now (text .entry)) v) later ⌝ }
 {
     let a = pattern[later];
     let x = symbol_at(text, v, later);
-    let mut k = first_cell(v);
-    let mut q = 0;
-    while q < later {
-        let at = k.at;
-        if mismatch(pattern[q], a, text[at], x) {
-            return q;
+    let mut from = 0;
+    let mut i = 0;
+    while from < later {
+        let n = lesser(v.width, later - from);
+        let row = window_row(text, v.columns, v.row, v.column, n, i);
+        let cells = &pattern[from..from + n];
+        let q = earlier_in_row(row, cells, a, x);
+        if q < n {
+            return from + q;
         }
-        k = next_cell(k, v);
-        q += 1;
+        from += n;
+        i += 1;
     }
-    q
+    from
 }
 
 // The mismatch that ends at the position later, which some mismatch does, and begins first.

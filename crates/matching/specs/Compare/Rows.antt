@@ -1,7 +1,7 @@
 -- A window row by row, with no division: where row i begins in the text and in the pattern, that both rows are there, and that their cells are the
 -- window's and the pattern's by position. A loop over the rows lends each as a part of its list.
 -- Assumes nothing.
-use mathlib.Core.Path.{_≡_, sym, _∙_, ap}
+use mathlib.Core.Path.{_≡_, refl, sym, _∙_, ap}
 use mathlib.Core.List.{List}
 use Prim.Native.Nat.{ℕ, _+_, _-_, _*_, _≤_, _<_}
 use native.Mathlib.Nat.{add-zero, add-assoc, add-sub-cancel-left, zero-mul, suc-mul, mul-le-mul-right}
@@ -9,7 +9,8 @@ use native.Mathlib.Numerals.{add-one}
 use native.Mathlib.Omega.{arith}
 use lib.ListN.{length, getD, take, drop, length-take, length-drop}
 use lib.Seq.{getD-take, getD-drop}
-use Rattle.shapes.specs.Windows.{window-cell}
+use Rattle.shapes.specs.Windows.{rowCells, row-cells-is, window-cell}
+use Rattle.view.specs.Inside.{RowInside}
 use Rattle.matching.specs.Compare.{patternAt, windowOf, cellsOf, Placed}
 use Rattle.matching.specs.declared.compare.WindowPlace.{WindowPlace}
 
@@ -64,19 +65,56 @@ module _ (v : WindowPlace) where
           let down : (i + 1) * v .width ≤ v .height * v .width = mul-le-mul-right (v .width) (omega arith) in
           omega (arith, next-from, here .from-is)
 
-      module _ (row cells : List ℕ) (er : row ≡ take (v .width) (drop start text)) (ep : cells ≡ take (v .width) (drop from pattern)) where
-        pub length-row : length row ≡ v .width
-        length-row = rw (er, length-take, length-drop) (omega (arith, row-fits))
+      -- the first n cells of row i lie in the text
+      pub row-inside : (n : ℕ) → n ≤ v .width → RowInside text (v .columns) (v .row) (v .column) n i
+      row-inside n part = record { broad = omega (arith, placed .some, placed .across); within = omega (arith, here .start-is, row-fits) }
 
-        -- they are as long as each other
-        pub same-length : length cells ≡ length row
-        same-length = rw (ep, length-take, length-drop) (omega (arith, cells-fit, length-row))
+      -- the first n cells of both rows
+      module _ (n : ℕ) (part : n ≤ v .width) (row cells : List ℕ) (er : row ≡ take n (drop start text)) (ep : cells ≡ take n (drop from pattern)) where
+        pub length-part : length row ≡ n
+        length-part = rw (er, length-take, length-drop) (omega (arith, row-fits))
+
+        -- they are as many as each other
+        pub same-part : length cells ≡ length row
+        same-part = rw (ep, length-take, length-drop) (omega (arith, cells-fit, length-part))
 
         -- and have the symbols of pattern and window
+        pub part-pattern : (j : ℕ) → j < n → getD cells j 0 ≡ patternAt pattern (from + j)
+        part-pattern j h = rw (ep, getD-take n (drop from pattern) j 0 h) (getD-drop from pattern j 0)
+
+        pub part-window : (j : ℕ) → j < n → getD row j 0 ≡ windowOf text v (from + j)
+        part-window j h =
+            rw (er, getD-take n (drop start text) j 0 h, here .from-is, window-cell text (v .columns) (v .row) (v .column) (v .width) i j (omega arith), ← here .start-is)
+            (getD-drop start text j 0)
+
+      -- both rows whole
+      module _ (row cells : List ℕ) (er : row ≡ take (v .width) (drop start text)) (ep : cells ≡ take (v .width) (drop from pattern)) where
+        pub length-row : length row ≡ v .width
+        length-row = length-part (v .width) (omega arith) row cells er ep
+
+        pub same-length : length cells ≡ length row
+        same-length = same-part (v .width) (omega arith) row cells er ep
+
         pub row-pattern : (j : ℕ) → j < v .width → getD cells j 0 ≡ patternAt pattern (from + j)
-        row-pattern j h = rw (ep, getD-take (v .width) (drop from pattern) j 0 h) (getD-drop from pattern j 0)
+        row-pattern = part-pattern (v .width) (omega arith) row cells er ep
 
         pub row-window : (j : ℕ) → j < v .width → getD row j 0 ≡ windowOf text v (from + j)
-        row-window j h =
-            rw (er, getD-take (v .width) (drop start text) j 0 h, here .from-is, window-cell text (v .columns) (v .row) (v .column) (v .width) i j h, ← here .start-is)
-            (getD-drop start text j 0)
+        row-window = part-window (v .width) (omega arith) row cells er ep
+
+-- ---- rows that are read by their number, so that no place is kept for them
+
+-- where row i begins in the text
+abbrev pub rowStart : WindowPlace → ℕ → ℕ
+rowStart v i = (v .row + i) * v .columns + v .column
+
+-- the first n cells of row i, as the view reads them
+pub row-read : (text : List ℕ) (v : WindowPlace) (i n : ℕ) (row : List ℕ) → row ≡ rowCells text (v .columns) (v .row + i) (v .column) n → row ≡ take n (drop (rowStart v i) text)
+row-read text v i n row e = e ∙ row-cells-is text (v .columns) (v .row + i) (v .column) n
+
+pub read-first : (v : WindowPlace) → RowAt v 0 (rowStart v 0) 0
+read-first v = record { within = omega arith; start-is = refl; from-is = rw zero-mul }
+
+pub read-below : (v : WindowPlace) (i from : ℕ) → i < v .height → RowAt v i (rowStart v i) from → RowAt v (i + 1) (rowStart v (i + 1)) (from + v .width)
+read-below v i from inside here =
+    let r = row-below v i (rowStart v i) from inside here in
+    record { within = r .within; start-is = refl; from-is = r .from-is }

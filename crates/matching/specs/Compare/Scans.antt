@@ -9,12 +9,22 @@ use native.Mathlib.Omega.{arith}
 use borrow.Author.Tests.{lt-ltb, le-ltb}
 use lib.ListN.{length, getD, set, length-replicate, getD-replicate}
 use Rattle.theory.specs.Test.{pick-true, pick-false, Tested, holds, fails, lt-tested}
-use Rattle.theory.specs.First.{first-is, first-spec}
+use Rattle.theory.specs.First.{first, first-is, first-spec}
 use Rattle.theory.specs.Table.{table-is}
 use Rattle.theory.specs.Match.{mismatchAt, earliest, ends, firstEnd, mismatchEnding, answerOf, matched, imageOf, column}
 use Rattle.theory.specs.Match.Even.{even-if, even-swap, no-image}
 use Rattle.theory.specs.Match.Images.{agreesBy, agrees, column-step, length-column}
 use Rattle.matching.specs.Compare.{noImages}
+
+-- the ways out of a search: at a place that passes the test, and past all places
+pub search-found : {P : ℕ → Bool} {n r : ℕ} → r < n → ((k : ℕ) → k < r → P k ≡ false) → P r ≡ true → r ≡ first P n
+search-found l clear e = sym (first-is (record { within = omega arith; before = clear; hit = λ _. e }))
+
+pub search-none : {P : ℕ → Bool} {n r : ℕ} → r ≡ n → ((k : ℕ) → k < r → P k ≡ false) → r ≡ first P n
+search-none {n} {r} e clear = sym (first-is (record { within = omega arith; before = clear; hit = λ b. absurd (no-more b) }))
+  where
+    no-more : r < n → ⊥
+    no-more b = omega arith
 
 -- before the first position no symbol has an image
 pub column-none : (m w : ℕ → ℕ) → noImages ≡ column m w 0
@@ -67,14 +77,11 @@ module _ (m w : ℕ → ℕ) where
   -- the ways out: at a position where a mismatch ends, and past all positions
   pub end-found : (p n : ℕ) → p < n → ((k : ℕ) → k < p → ends m w k ≡ false) → ends m w p ≡ true → p ≡ firstEnd m w n
   unfolding firstEnd
-  end-found p n l clear e = sym (first-is (record { within = omega arith; before = clear; hit = λ _. e }))
+  end-found p n l clear e = search-found l clear e
 
   pub end-none : (p n : ℕ) → p ≡ n → ((k : ℕ) → k < p → ends m w k ≡ false) → p ≡ firstEnd m w n
   unfolding firstEnd
-  end-none p n l clear = sym (first-is (record { within = omega arith; before = clear; hit = λ b. absurd (no-more b) }))
-    where
-      no-more : p < n → ⊥
-      no-more b = omega arith
+  end-none p n l clear = search-none l clear
 
   pub end-le : (n : ℕ) → firstEnd m w n ≤ n
   unfolding firstEnd
@@ -83,14 +90,11 @@ module _ (m w : ℕ → ℕ) where
   -- the earlier cell, by its own search
   pub earlier-found : (p q : ℕ) → q < p → ((k : ℕ) → k < q → mismatchAt m w p k ≡ false) → mismatchAt m w p q ≡ true → q ≡ earliest m w p
   unfolding earliest
-  earlier-found p q l clear e = sym (first-is (record { within = omega arith; before = clear; hit = λ _. e }))
+  earlier-found p q l clear e = search-found l clear e
 
   pub earlier-none : (p q : ℕ) → q ≡ p → ((k : ℕ) → k < q → mismatchAt m w p k ≡ false) → q ≡ earliest m w p
   unfolding earliest
-  earlier-none p q l clear = sym (first-is (record { within = omega arith; before = clear; hit = λ b. absurd (no-more b) }))
-    where
-      no-more : q < p → ⊥
-      no-more b = omega arith
+  earlier-none p q l clear = search-none l clear
 
   -- the answer from where the scan ends
   pub answer-mismatch : (p n : ℕ) → p ≡ firstEnd m w n → p < n → answerOf m w n ≡ mismatchEnding m w p

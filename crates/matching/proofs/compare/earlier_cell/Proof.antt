@@ -1,49 +1,53 @@
--- `compare::earlier_cell` meets its contract. The invariant: the walk stands at q, and no position before q mismatches with the later one.
+-- `compare::earlier_cell` meets its contract. The invariant: no position before from mismatches with the later one, and from is where row i begins.
 -- Assumes nothing.
-use mathlib.Core.Path.{_≡_, sym, ap, _∙_}
-use mathlib.Core.Bool.{Bool, false}
-use Prim.Native.Nat.{ℕ, _+_, _-_, _≤_, _<_}
+use mathlib.Core.Path.{_≡_, refl}
+use Prim.Native.Nat.{_+_, _-_, _≤_, _<_}
 use native.Mathlib.Omega.{arith}
-use lib.ListN.{length}
-use Rattle.theory.specs.Test.{Tested, holds, fails, lt-tested}
+use lib.ListN.{take, drop}
 use denote.Ref.{now}
-use Rattle.theory.specs.Match.{mismatchAt}
-use Rattle.theory.specs.Match.Even.{mismatch-by}
-use Rattle.matching.specs.Compare.{patternAt, windowOf, WalkAt}
-use Rattle.matching.specs.Compare.Walks.{walkable, walk-reads, walk-inside, walk-column, cells-small}
-use Rattle.matching.specs.Compare.Scans.{earlier-found, earlier-none}
+use Rattle.matching.specs.Compare.{patternAt, windowOf}
+use Rattle.matching.specs.Compare.Walks.{cells-small, rows-small}
+use Rattle.matching.specs.Compare.Rows.{RowAt, rowStart, part-is, row-read, row-inside, same-part}
+use Rattle.matching.specs.Compare.RowScans.{Searched, searched-none, searched-all, row-next, part-le, searched-more, searched-found}
 use Rattle.matching.proofs.compare.earlier_cell.Statement.{statement}
 use Rattle.matching.proofs.compare.earlier_cell.Tie as tie
 
 abbrev Inv-loop : tie.InvT-loop
-Inv-loop text v pattern later a x k₀ q₀ k q =
-    (q ≤ later) × WalkAt v q k × ((i : ℕ) → i < q → mismatchAt (patternAt pattern) (windowOf text v) later i ≡ false)
+Inv-loop text v pattern later a x from₀ i₀ from i = Searched (patternAt pattern) (windowOf text v) (v .width) later i from
 
 abbrev μ-loop : tie.MeasureT-loop
-μ-loop text v pattern later a x k₀ q₀ k q = later - q
+μ-loop text v pattern later a x from₀ i₀ from i = later - from
 
-below : (i : ℕ) → i < 0 → ⊥
-below i h = omega arith
+abbrev entry : tie.In-loop Inv-loop μ-loop → tie.Start Inv-loop μ-loop
+entry c = c .before .before .before .before .before .before
 
--- what holds of each position below q, and of q, holds of each below q + 1
-below-clear : (q : ℕ) (P : ℕ → Bool) → ((k : ℕ) → k < q → P k ≡ false) → P q ≡ false → (k : ℕ) → k < q + 1 → P k ≡ false
-below-clear q P h e k l = go (lt-tested k q)
-  where
-    go : {t : Bool} → Tested (k < q) t → P k ≡ false
-    go (holds b) = h k b
-    go (fails b) =
-        let same : k ≡ q = omega arith in
-        ap P same ∙ e
+-- the row that is searched next, and how much of it
+place : (c : tie.In-loop Inv-loop μ-loop) → let a = entry c .args in
+    (c .before .loop .i < a .v .height) × RowAt (a .v) (c .before .loop .i) (rowStart (a .v) (c .before .loop .i)) (c .before .loop .from)
+place c =
+    let o = entry c in
+    row-next (now (o .args .text)) (o .args .v) (now (o .args .pattern)) _ (o .pre .0) (o .pre .1) (o .pre .2) _ _ (c .loop-test .taken) (c .before .loop .inv)
 
-inside : (c : tie.In-loop Inv-loop μ-loop) → c .before .loop .k .at < length (now (c .before .before .before .before .before .before .before .args .text))
-inside c = let o = c .before .before .before .before .before .before .before in walk-inside _ _ (o .pre .0) (c .before .loop .q) _ (omega (arith, o .pre .2, c .loop-test .taken)) (c .before .loop .inv .1)
+part : (c : tie.After-lesser Inv-loop μ-loop) → let a = entry (c .before) .args in
+    (c .lesser .result ≤ a .v .width) × (c .before .before .loop .from + c .lesser .result ≤ a .later) × (0 < c .lesser .result)
+part c =
+    let i = c .before in
+    let o = entry i in
+    part-le (now (o .args .text)) (o .args .v) (now (o .args .pattern)) _ (o .pre .0) (o .pre .1) (o .pre .2) _ _ (i .loop-test .taken) (i .before .loop .inv) _ (c .lesser .ensures)
 
--- what the test says of the position
-tested : (c : tie.After-mismatch Inv-loop μ-loop) → let a = c .before .before .before .before .before .before .before .before .before .before .args in
-    c .mismatch .result ≡ mismatchAt (patternAt (now (a .pattern))) (windowOf (now (a .text)) (a .v)) (a .later) (c .before .before .before .before .loop .q)
-tested c =
-    let i = c .before .before .before in
-    c .mismatch .ensures ∙ mismatch-by _ _ _ _ _ _ (walk-reads _ _ _ _ (i .before .loop .inv .1)) (i .before .before .before .symbol-at .ensures)
+later-small : (c : tie.In-loop Inv-loop μ-loop) → entry c .args .later < 65025
+later-small c = omega (arith, entry c .pre .2, cells-small _ _ (entry c .pre .0))
+
+-- the two rows, as they are lent
+row-is : (c : tie.After-window-row Inv-loop μ-loop) → let i = c .before .before in
+    let a = entry i .args in
+    now (c .window-row .result) ≡ take (c .before .lesser .result) (drop (rowStart (a .v) (i .before .loop .i)) (now (a .text)))
+row-is c = row-read _ (entry (c .before .before) .args .v) _ _ _ (c .window-row .ensures)
+
+cells-is : (c : tie.After-lesser Inv-loop μ-loop) → let s = c .before .before .loop .from in
+    let l = now (entry (c .before) .args .pattern) in
+    take (s + c .lesser .result - s) (drop s l) ≡ take (c .lesser .result) (drop s l)
+cells-is c = part-is (now (entry (c .before) .args .pattern)) (c .before .before .loop .from) (c .lesser .result)
 
 shared-slice-read-a : tie.Need-shared-slice-read-a Inv-loop μ-loop
 shared-slice-read-a c = let o = c .before .before .before in omega (arith, o .pre .1, o .pre .2)
@@ -51,45 +55,70 @@ shared-slice-read-a c = let o = c .before .before .before in omega (arith, o .pr
 symbol-at-requires : tie.Need-symbol-at-requires Inv-loop μ-loop
 symbol-at-requires c κs = let o = c .before .before .before in (o .pre .0, o .pre .2)
 
-first-cell-requires : tie.Need-first-cell-requires Inv-loop μ-loop
-first-cell-requires c κs = walkable _ _ (c .before .before .before .before .pre .0)
-
 loop-holds : tie.Need-loop-holds Inv-loop μ-loop
-loop-holds c = (omega arith, c .first-cell .ensures, λ i h. absurd (below i h))
+loop-holds c = let a = c .before .before .before .before .args in searched-none (now (a .text)) (a .v) (now (a .pattern)) (a .later)
 
-shared-slice-read-mismatch : tie.Need-shared-slice-read-mismatch Inv-loop μ-loop
-shared-slice-read-mismatch c = let o = c .before .before .before .before .before .before .before .before in omega (arith, o .pre .1, o .pre .2, c .before .loop-test .taken)
+sub-lesser : tie.Need-sub-lesser Inv-loop μ-loop
+sub-lesser c = omega arith
 
-shared-slice-read-mismatch-2 : tie.Need-shared-slice-read-mismatch-2 Inv-loop μ-loop
-shared-slice-read-mismatch-2 c = inside (c .before .before)
+lesser-requires : tie.Need-lesser-requires Inv-loop μ-loop
+lesser-requires c κs = tt
 
-mismatch-requires : tie.Need-mismatch-requires Inv-loop μ-loop
-mismatch-requires c κs = tt
+window-row-requires : tie.Need-window-row-requires Inv-loop μ-loop
+window-row-requires c κs =
+    let i = c .before in
+    let o = entry i in
+    row-inside _ _ _ _ (place i .0) (place i .1) _ (now (o .args .pattern)) (o .pre .0) (o .pre .1) _ (part c .0)
+
+add-cells : tie.Need-add-cells Inv-loop μ-loop
+add-cells c = omega (arith, part (c .before), later-small (c .before .before))
+
+sub-cells : tie.Need-sub-cells Inv-loop μ-loop
+sub-cells c = omega arith
+
+part-cells-start : tie.Need-part-cells-start Inv-loop μ-loop
+part-cells-start c = omega arith
+
+part-cells-end : tie.Need-part-cells-end Inv-loop μ-loop
+part-cells-end c = let o = entry (c .before .before) in omega (arith, part (c .before), o .pre .1, o .pre .2)
+
+earlier-in-row-requires : tie.Need-earlier-in-row-requires Inv-loop μ-loop
+earlier-in-row-requires c κs =
+    let w = c .before in
+    let i = w .before .before in
+    let o = entry i in
+    same-part _ _ _ _ (place i .0) (place i .1) _ _ (o .pre .0) (o .pre .1) _ (part (w .before) .0) _ _ (row-is w) (cells-is (w .before))
+
+add-result : tie.Need-add-result Inv-loop μ-loop
+add-result c = omega (arith, part (c .before .before .before .before), later-small (c .before .before .before .before .before))
 
 returns : tie.Need-returns Inv-loop μ-loop
-returns c = earlier-found _ _ _ _ (c .before .before .before .before .loop-test .taken) (c .before .before .before .before .before .loop .inv .2) (sym (tested (c .before)) ∙ c .if1 .taken)
+returns c =
+    let w = c .before .before .before in
+    let i = w .before .before in
+    let o = entry i in
+    searched-found _ _ _ _ (o .pre .0) (o .pre .1) (o .pre .2) _ _ (i .loop-test .taken) (i .before .loop .inv) _ (w .before .lesser .ensures) _ _ (row-is w) (cells-is (w .before)) _ _ _
+    refl (i .before .before .symbol-at .ensures) (c .before .earlier-in-row .ensures) (c .if1 .taken)
 
-next-cell-requires : tie.Need-next-cell-requires Inv-loop μ-loop
-next-cell-requires c κs =
-    let o = c .before .before .before .before .before .before .before .before .before .before .before in
-    (walkable _ _ (o .pre .0), omega (arith, inside (c .before .before .before .before), o .pre .0 .small), walk-column _ _ (o .pre .0) _ _ (c .before .before .before .before .before .loop .inv .1))
+add-from : tie.Need-add-from Inv-loop μ-loop
+add-from c = omega (arith, part (c .before .before .before .before), later-small (c .before .before .before .before .before))
 
-add-q : tie.Need-add-q Inv-loop μ-loop
-add-q c = let o = c .before .before .before .before .before .before .before .before .before .before .before .before in omega (arith, o .pre .2, cells-small _ _ (o .pre .0), c .before .before .before .before .before .loop-test .taken)
+add-i : tie.Need-add-i Inv-loop μ-loop
+add-i c = let i = c .before .before .before .before .before in omega (arith, place i .0, rows-small _ _ (entry i .pre .0))
 
 loop-less : tie.Need-loop-less Inv-loop μ-loop
-loop-less c = let t = c .before .before .before .before .before .loop-test .taken in omega arith
+loop-less c = let t = c .before .before .before .before .before .loop-test .taken in omega (arith, part (c .before .before .before .before))
 
 loop-again : tie.Need-loop-again Inv-loop μ-loop
 loop-again c =
-    let i = c .before .before .before .before .before in (
-      (let t = i .loop-test .taken in omega arith),
-      c .next-cell .ensures _ (i .before .loop .inv .1),
-      λ k h. below-clear (i .before .loop .q) _ (i .before .loop .inv .2) (sym (tested (c .before .before)) ∙ c .before .if1 .left) k h,
-    )
+    let w = c .before .before .before in
+    let i = w .before .before in
+    let o = entry i in
+    searched-more _ _ _ _ (o .pre .0) (o .pre .1) (o .pre .2) _ _ (i .loop-test .taken) (i .before .loop .inv) _ (w .before .lesser .ensures) _ _ (row-is w) (cells-is (w .before)) _ _ _
+    refl (i .before .before .symbol-at .ensures) (c .before .earlier-in-row .ensures) (c .if1 .left)
 
 returns-2 : tie.Need-returns-2 Inv-loop μ-loop
-returns-2 c = earlier-none _ _ _ _ (omega arith) (c .before .loop .inv .2)
+returns-2 c = let a = c .before .before .before .before .before .before .args in searched-all (now (a .text)) (a .v) (now (a .pattern)) (a .later) _ _ (c .loop-test .left) (c .before .loop .inv)
 
 pub earlier-cell-spec : {M : Type 1} → statement M
 earlier-cell-spec =
@@ -99,14 +128,19 @@ earlier-cell-spec =
     μ-loop
     shared-slice-read-a
     symbol-at-requires
-    first-cell-requires
     loop-holds
-    shared-slice-read-mismatch
-    shared-slice-read-mismatch-2
-    mismatch-requires
+    sub-lesser
+    lesser-requires
+    window-row-requires
+    add-cells
+    sub-cells
+    part-cells-start
+    part-cells-end
+    earlier-in-row-requires
+    add-result
     returns
-    next-cell-requires
-    add-q
+    add-from
+    add-i
     loop-less
     loop-again
     returns-2)
