@@ -4,7 +4,8 @@
 --     view-beside      the same of a view and two numbers
 --     view-apart       what a view and two numbers own gives what its slice and five numbers own, and the view stays whole: it is Copy
 --     Made, made-asks, made-says      the call of `window_view`: what it makes, what it is given of a slice that is kept, and what it says
--- The laws take `Given`. The rest assumes nothing.
+-- The laws take `Given`, as every walk does. Why they hold: a number owns nothing but the fact that it fits, and slices and views are Copy.
+-- Assumes nothing.
 use mathlib.Core.Path.{_≡_, refl}
 use Prim.Native.Nat.{ℕ, _<_, _^_}
 use mathlib.Core.List.{List, [], _∷_}
