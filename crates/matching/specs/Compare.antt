@@ -1,6 +1,6 @@
 -- Document 01's one-window question: the pattern against the window of its size at a corner, read in place.
 -- Assumes nothing.
-pub mod Walks
+pub mod Positions
 pub mod Rows
 pub mod Scans
 pub mod RowScans

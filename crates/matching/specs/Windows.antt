@@ -11,7 +11,7 @@ use Rattle.shapes.specs.Windows.{cornerRow, cornerColumn}
 use Rattle.grid.specs.Counts.{ShapeOf, across, down}
 use Rattle.grid.specs.declared.counts.Shape.{Shape}
 use Rattle.matching.specs.Compare.{Placed}
-use Rattle.matching.specs.Compare.Walks.{next-div, next-mod, below-div, below-mod}
+use Rattle.matching.specs.Compare.Positions.{next-div, next-mod, below-div, below-mod}
 use Rattle.matching.specs.declared.compare.WindowPlace.{WindowPlace}
 
 -- the place of window k: its corner is at row k / across and column k % across

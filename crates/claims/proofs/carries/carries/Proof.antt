@@ -9,7 +9,7 @@ use lib.ListN.{length, take, drop}
 use borrow.Author.Tests.{not-false}
 use denote.Ref.{now}
 use Rattle.matching.specs.Compare.Rows.{part-is, row-fits, cells-fit, same-length}
-use Rattle.matching.specs.Compare.Walks.{cells-small, walkable}
+use Rattle.matching.specs.Compare.Positions.{cells-small, start-small}
 use Rattle.claims.specs.Carries.{RowsCarried, rows-none, rows-all, rows-more}
 use Rattle.claims.proofs.carries.carries.Statement.{statement}
 use Rattle.claims.proofs.carries.carries.Tie as tie
@@ -31,7 +31,7 @@ row-small : (c : tie.In-loop Inv-loop μ-loop) → c .before .loop .start + entr
 row-small c = omega (arith, row-in c, entry c .pre .0 .small)
 
 below-small : (c : tie.In-loop Inv-loop μ-loop) → c .before .loop .start + entry c .args .v .columns ≤ 130050
-below-small c = omega (arith, row-small c, walkable _ _ (entry c .pre .0) .start-small)
+below-small c = omega (arith, row-small c, start-small _ _ (entry c .pre .0))
 
 cells-in : (c : tie.In-loop Inv-loop μ-loop) → c .before .loop .from + entry c .args .v .width ≤ length (now (entry c .args .pattern))
 cells-in c = cells-fit _ _ _ _ (c .loop-test .taken) (c .before .loop .inv .place) (now (entry c .args .text)) (now (entry c .args .pattern)) (entry c .pre .0) (entry c .pre .1)
@@ -50,10 +50,10 @@ cells-is : (c : tie.In-loop Inv-loop μ-loop) → let s = c .before .loop .from 
 cells-is c = part-is (now (entry c .args .pattern)) (c .before .loop .from) (entry c .args .v .width)
 
 mul-start : tie.Need-mul-start Inv-loop μ-loop
-mul-start c = let o = c .before .before .before in omega (arith, walkable _ _ (o .pre .0) .start-small)
+mul-start c = let o = c .before .before .before in omega (arith, start-small _ _ (o .pre .0))
 
 add-start : tie.Need-add-start Inv-loop μ-loop
-add-start c = let o = c .before .before .before .before in omega (arith, walkable _ _ (o .pre .0) .start-small, o .pre .0 .across)
+add-start c = let o = c .before .before .before .before in omega (arith, start-small _ _ (o .pre .0), o .pre .0 .across)
 
 loop-holds : tie.Need-loop-holds Inv-loop μ-loop
 loop-holds c = let o = c .before .before .before .before in rows-none _ _ _ _ _ _ refl (o .pre .2)

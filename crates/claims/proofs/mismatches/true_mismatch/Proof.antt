@@ -8,7 +8,7 @@ use borrow.Author.Needs.{needs}
 use borrow.Author.Tests.{not-true, not-false}
 use denote.Ref.{now}
 use Rattle.matching.specs.Compare.{cellsOf}
-use Rattle.matching.specs.Compare.Walks.{cells-small}
+use Rattle.matching.specs.Compare.Positions.{cells-small}
 use Rattle.claims.specs.Claims.{cellInside}
 use Rattle.claims.specs.Mismatches.{cell-position, inside-says, earlier-outside, later-outside, not-in-order, in-order}
 use Rattle.claims.proofs.mismatches.true_mismatch.Statement.{statement}

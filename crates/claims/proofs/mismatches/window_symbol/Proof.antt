@@ -7,7 +7,7 @@ use lib.ListN.{length}
 use borrow.Author.Needs.{needs}
 use denote.Ref.{now}
 use Rattle.shapes.specs.Windows.{window-cell}
-use Rattle.matching.specs.Compare.Walks.{rows-small}
+use Rattle.matching.specs.Compare.Positions.{rows-small}
 use Rattle.claims.specs.Mismatches.{cell-in-text}
 use Rattle.claims.proofs.mismatches.window_symbol.Statement.{statement}
 use Rattle.claims.proofs.mismatches.window_symbol.Tie as tie

@@ -7,7 +7,7 @@ use Prim.Native.Nat.{_-_}
 use lib.ListN.{length}
 use denote.Ref.{now}
 use Rattle.matching.specs.Compare.{patternAt, windowOf}
-use Rattle.matching.specs.Compare.Walks.{cells-small}
+use Rattle.matching.specs.Compare.Positions.{cells-small}
 use Rattle.claims.specs.Pairs.{ImageTo, image-none, image-more, image-all, image-other}
 use Rattle.claims.proofs.pairs.all_cells_have.Statement.{statement}
 use Rattle.claims.proofs.pairs.all_cells_have.Tie as tie

@@ -6,7 +6,7 @@ use native.Mathlib.Omega.{arith}
 use lib.ListN.{take, drop}
 use denote.Ref.{now}
 use Rattle.matching.specs.Compare.{patternAt, windowOf}
-use Rattle.matching.specs.Compare.Walks.{cells-small, rows-small}
+use Rattle.matching.specs.Compare.Positions.{cells-small, rows-small}
 use Rattle.matching.specs.Compare.Rows.{RowAt, rowStart, part-is, row-read, row-inside, same-part}
 use Rattle.matching.specs.Compare.RowScans.{Searched, searched-none, searched-all, row-next, part-le, searched-more, searched-found}
 use Rattle.matching.proofs.compare.earlier_cell.Statement.{statement}

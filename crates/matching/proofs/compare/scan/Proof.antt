@@ -6,7 +6,7 @@ use Prim.Native.Nat.{ℕ, _+_, _-_, _≤_, _<_}
 use native.Mathlib.Omega.{arith}
 use lib.ListN.{length, getD, take, drop}
 use denote.Ref.{now}
-use Rattle.matching.specs.Compare.Walks.{cells-small, rows-small}
+use Rattle.matching.specs.Compare.Positions.{cells-small, rows-small}
 use Rattle.matching.specs.Compare.Rows.{part-is, rowStart, row-read, row-inside, cells-fit, same-length}
 use Rattle.matching.specs.Compare.Scans.{passed-long}
 use Rattle.matching.specs.Compare.RowScans.{RowsPassed, rows-none, rows-all, rows-more, rows-found}

@@ -1,7 +1,7 @@
 -- `compare::symbol_at` meets its contract: the view reads the window, and every position of a window that lies in the text is inside it.
 -- Assumes nothing.
 use borrow.Author.Needs.{needs}
-use Rattle.matching.specs.Compare.Walks.{cell-inside}
+use Rattle.matching.specs.Compare.Positions.{cell-inside}
 use Rattle.matching.proofs.compare.symbol_at.Statement.{statement}
 use Rattle.matching.proofs.compare.symbol_at.Tie as tie
 

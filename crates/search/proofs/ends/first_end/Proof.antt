@@ -7,7 +7,7 @@ use native.Mathlib.Omega.{arith}
 use lib.ListN.{length, getD, take, drop}
 use denote.Ref.{now}
 use Rattle.matching.specs.Compare.Rows.{part-is, row-fits, cells-fit, same-length}
-use Rattle.matching.specs.Compare.Walks.{cells-small, walkable}
+use Rattle.matching.specs.Compare.Positions.{cells-small, start-small}
 use Rattle.search.specs.Listing.Rows.{PassedRows, rows-none, rows-all, rows-more, rows-found}
 use Rattle.search.proofs.ends.first_end.Statement.{statement}
 use Rattle.search.proofs.ends.first_end.Tie as tie
@@ -30,7 +30,7 @@ row-small : (c : tie.In-loop Inv-loop μ-loop) → c .before .loop .start + entr
 row-small c = omega (arith, row-in c, entry c .pre .0 .small)
 
 below-small : (c : tie.In-loop Inv-loop μ-loop) → c .before .loop .start + entry c .args .v .columns ≤ 130050
-below-small c = omega (arith, row-small c, walkable _ _ (entry c .pre .0) .start-small)
+below-small c = omega (arith, row-small c, start-small _ _ (entry c .pre .0))
 
 cells-in : (c : tie.In-loop Inv-loop μ-loop) → c .before .loop .from + entry c .args .v .width ≤ length (now (entry c .args .pattern))
 cells-in c = cells-fit _ _ _ _ (c .loop-test .taken) (c .before .loop .inv .place) (now (entry c .args .text)) (now (entry c .args .pattern)) (entry c .pre .0) (entry c .pre .1)
@@ -56,10 +56,10 @@ pattern-byte : (c : tie.In-loop Inv-loop μ-loop) (k : ℕ) → getD (now (entry
 pattern-byte c k = omega (arith, c .before .before .before .before .shared-slice-known2 .given k)
 
 mul-start : tie.Need-mul-start Inv-loop μ-loop
-mul-start c = let o = c .before .before .before in omega (arith, walkable _ _ (o .pre .0) .start-small)
+mul-start c = let o = c .before .before .before in omega (arith, start-small _ _ (o .pre .0))
 
 add-start : tie.Need-add-start Inv-loop μ-loop
-add-start c = let o = c .before .before .before .before in omega (arith, walkable _ _ (o .pre .0) .start-small, o .pre .0 .across)
+add-start c = let o = c .before .before .before .before in omega (arith, start-small _ _ (o .pre .0), o .pre .0 .across)
 
 loop-holds : tie.Need-loop-holds Inv-loop μ-loop
 loop-holds c = let o = c .before .before .before .before in rows-none _ _ _ _ _ _ _ refl (o .pre .3) (o .pre .4)

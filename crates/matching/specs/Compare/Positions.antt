@@ -44,13 +44,10 @@ below-mod w p pos h =
     row-more : (p / w + 1) * w ≡ (p / w) * w + w
     row-more = ap (λ (x : ℕ). x * w) (omega arith) ∙ suc-mul (p / w) w
 
--- what a loop over the rows that keeps a row's first place asks: the places of the first row are small
-pub record Walkable (v : WindowPlace) : Type 0 where
-  pub start-small : v .row * v .columns + v .columns ≤ 65025
-
 module _ (text : List ℕ) (v : WindowPlace) where
-  pub walkable : Placed text v → Walkable v
-  walkable s = record { start-small = omega (arith, suc-mul (v .row) (v .columns), mul-le-mul-right (v .columns) first-row, s .down, s .small) }
+  -- what a loop over the rows that keeps a row's first place asks: the places of the first row are small
+  pub start-small : Placed text v → v .row * v .columns + v .columns ≤ 65025
+  start-small s = omega (arith, suc-mul (v .row) (v .columns), mul-le-mul-right (v .columns) first-row, s .down, s .small)
     where
       first-row : suc (v .row) ≤ v .row + v .height
       first-row = omega (arith, s .tall)
