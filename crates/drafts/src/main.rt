@@ -1,12 +1,12 @@
 // Document 01's drafts, each under a heading: the records of its listing a line each, then the totals of the search; what the check counts; or the
 // refusal.
-mod printing;
+mod output;
 mod running;
 
 use grid::counts::distinct_counts;
 use grid::strips::strip_links;
-use printing::print;
-use printing::print_line;
+use output::print;
+use output::print_line;
 use running::run;
 use running::run_check;
 use running::run_in;

@@ -1,8 +1,10 @@
 // A draft run: the search over buffers of its own, or the check of a listing, and the answer printed.
-use crate::printing::print_counts;
-use crate::printing::print_listing;
-use crate::printing::print_refusal;
-use crate::printing::print_totals;
+ghost use Prim.Native.Nat.{_≤_};
+ghost use lib.ListN.{length};
+use crate::output::print_counts;
+use crate::output::print_listing;
+use crate::output::print_refusal;
+use crate::output::print_totals;
 use search::search::Searched;
 use search::search::search;
 use verify::check::Checked;
@@ -17,7 +19,9 @@ pub fn run_in(
     height: usize,
     width: usize,
     listing: &mut [u8],
-) {
+)
+    requires { ⌜ length (now listing) ≤ 64 ⌝ }
+{
     let mut links = [0u16; 256];
     let mut counts = [0u16; 256];
     let mut flags = [0u8; 256];

@@ -3,6 +3,7 @@
 pub mod Accepted
 pub mod Answers
 pub mod Steps
+pub mod Outcome
 use mathlib.Core.Path.{_≡_}
 use mathlib.Core.List.{List, [], _∷_}
 use Prim.Native.Nat.{ℕ, _*_}

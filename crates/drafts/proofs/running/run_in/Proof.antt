@@ -1,32 +1,14 @@
--- `running::run_in` is safe: the listing of an accepted search has room in its buffer.
+-- `running::run_in` is safe: the listing of an accepted search lies in its buffer and holds records.
 -- Assumes nothing.
-use mathlib.Core.Path.{_≡_, sym, subst}
-use mathlib.Core.List.{List, [], _∷_}
-use Prim.Native.Nat.{ℕ, _≤_}
+use mathlib.Core.Path.{sym}
 use native.Mathlib.Omega.{arith}
 use lib.Seq.{length-take-le}
 use borrow.Author.Needs.{needs}
 use denote.Ref.{now}
-use Rattle.search.specs.Listing.{foundIn, refusedIn, neededLength}
-use Rattle.search.specs.Search.{searchNumber, Searches}
-use Rattle.search.specs.Search.Accepted.{search-passed}
-use Rattle.search.specs.declared.search.Searched.{Searched}
-use Rattle.search.specs.declared.search.Searched.the-variants.{Listed}
+use Rattle.search.specs.Listing.{searchRecords}
+use Rattle.search.specs.Search.Outcome.{listed-fits, listed-bytes, listed-length, listed-inside}
 use Rattle.drafts.proofs.running.run_in.Statement.{statement}
 use Rattle.drafts.proofs.running.run_in.Tie as tie
-
-module _ (text : List ℕ) (rows columns : ℕ) (pattern : List ℕ) (height width links counts flags listing : ℕ) where
-  -- an accepted search had room for the length that it answers
-  listed-fits : (q : Searched) (found refused size : ℕ) → q ≡ Listed found refused size
-      → Searches text rows columns pattern height width links counts flags listing q → size ≤ listing
-  listed-fits q found refused size e s =
-      let says : Searches text rows columns pattern height width links counts flags listing (Listed found refused size) =
-      subst (Searches text rows columns pattern height width links counts flags listing) e s in
-      let zero-is : searchNumber text rows columns pattern height width links counts flags listing ≡ 0 = sym (says .number-is) in
-      let values : found ∷ refused ∷ size ∷ [] ≡ foundIn text rows columns pattern height width ∷ refusedIn text rows columns pattern height width
-      ∷ neededLength text rows columns pattern height width ∷ [] = rw zero-is at (says .values-are) in
-      let size-is : size ≡ neededLength text rows columns pattern height width = cc in
-      omega (arith, size-is, search-passed text rows columns pattern height width links counts flags listing zero-is .1)
 
 slice-aggregate-search : tie.Need-slice-aggregate-search
 slice-aggregate-search c = search needs
@@ -47,14 +29,31 @@ slice-reshare-prefix-print-listing : tie.Need-slice-reshare-prefix-print-listing
 slice-reshare-prefix-print-listing c =
     let call = c .before .before .before .before .before .before .before .before in
     let a = call .before .before .before .before .before .before .before .before .args in
-    let fits = listed-fits (now (a .text)) (a .rows) (a .columns) (now (a .pattern)) (a .height) (a .width) _ _ _ _ _ _ _ _ (c .before .answer .given .1) (call .search .ensures .0) in
-    omega (arith, fits)
+    listed-inside (now (a .text)) (a .rows) (a .columns) (now (a .pattern)) (a .height) (a .width) _ _ _ (now (a .listing)) _ _ _ _ (c .before .answer .given .1) (call .search .ensures .0)
+    _ (call .search .ensures .1 .1 .1 .1 .0) (call .search .ensures .1 .1 .1 .1 .1)
 
 slice-aggregate-print-listing : tie.Need-slice-aggregate-print-listing
 slice-aggregate-print-listing c = sym (length-take-le _ _ (slice-reshare-prefix-print-listing (c .before)))
 
 print-listing-requires : tie.Need-print-listing-requires
-print-listing-requires c κs = search needs
+print-listing-requires c κs =
+    let call = c .before .before .before .before .before .before .before .before .before in
+    let o = call .before .before .before .before .before .before .before .before in
+    let a = o .args in
+    let q = c .before .before .answer .given .1 in (
+      record {
+        records = searchRecords (now (a .text)) (a .rows) (a .columns) (now (a .pattern)) (a .height) (a .width);
+        bytes-are = listed-bytes (now (a .text)) (a .rows) (a .columns) (now (a .pattern)) (a .height) (a .width) _ _ _ (now (a .listing)) _ _ _ _ q (call .search .ensures .0)
+            _ (call .search .ensures .1 .1 .1 .1 .0) (call .search .ensures .1 .1 .1 .1 .1);
+      },
+      omega (
+        arith,
+        o .pre,
+        listed-fits (now (a .text)) (a .rows) (a .columns) (now (a .pattern)) (a .height) (a .width) _ _ _ (now (a .listing)) _ _ _ _ q (call .search .ensures .0),
+        listed-length (now (a .text)) (a .rows) (a .columns) (now (a .pattern)) (a .height) (a .width) _ _ _ (now (a .listing)) _ _ _ _ q (call .search .ensures .0)
+            _ (call .search .ensures .1 .1 .1 .1 .0) (call .search .ensures .1 .1 .1 .1 .1),
+      ),
+    )
 
 print-totals-requires : tie.Need-print-totals-requires
 print-totals-requires c κs = search needs

@@ -1,11 +1,11 @@
--- `printing::print_line` is safe and ends: the measure is how many numbers are left.
+-- `output::print_line` is safe and ends: the measure is how many numbers are left.
 -- Assumes nothing.
 use Prim.Native.Nat.{_-_}
 use native.Mathlib.Omega.{arith}
 use lib.ListN.{length}
 use borrow.Author.Needs.{needs}
-use Rattle.drafts.proofs.printing.print_line.Statement.{statement}
-use Rattle.drafts.proofs.printing.print_line.Tie as tie
+use Rattle.drafts.proofs.output.print_line.Statement.{statement}
+use Rattle.drafts.proofs.output.print_line.Tie as tie
 
 abbrev Inv-loop : tie.InvT-loop
 Inv-loop numbers i₀ t3 i = Unit {0}
