@@ -6,6 +6,7 @@ mod compare;
 mod counts;
 mod damage;
 mod links;
+mod program;
 mod random;
 mod reader;
 mod search;
