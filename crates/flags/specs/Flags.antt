@@ -4,8 +4,9 @@
 pub mod Strips
 pub mod Links
 pub mod Steps
+pub mod Own
 use mathlib.Core.Path.{_≡_, refl, sym, _∙_, ap, subst}
-use mathlib.Core.Bool.{Bool, true, false, false≢true}
+use mathlib.Core.Bool.{Bool, true, false}
 use mathlib.Core.List.{List}
 use mathlib.Core.Logic.{_↔_}
 use Prim.Native.Nat.{ℕ, _+_, _-_, _*_, _≤_, _<_}
@@ -13,7 +14,6 @@ use native.Mathlib.Nat.{add-mul, mul-le-mul-right}
 use native.Mathlib.Omega.{arith}
 use lib.Dec.{eqb, ltb}
 use lib.ListN.{length, getD}
-use borrow.Author.Count.{below-more}
 use borrow.Author.Tests.{eq-eqb, ne-eqb, lt-ltb, le-ltb}
 use Rattle.theory.specs.Test.{pick, both, Tested, holds, fails, is-true, is-false, says-true, says-false, true-false, tested-same, tested-iff, eq-tested, lt-tested, both-tested}
 use Rattle.theory.specs.First.{every, every-tested}
@@ -24,6 +24,7 @@ use Rattle.shapes.specs.Shapes.{corners, product-le}
 use Rattle.shapes.specs.Windows.{windowAt, cornerRow, cornerColumn, corner-row, corner-column}
 use Rattle.grid.specs.Distinct.{distinct}
 use Rattle.grid.specs.Strips.{link}
+use Rattle.grid.specs.Strips.Links.{link-back}
 use Rattle.grid.specs.Counts.{ShapeOf, across, down}
 use Rattle.grid.specs.declared.counts.Shape.{Shape}
 use Rattle.matching.specs.Compare.{patternAt}
@@ -134,30 +135,9 @@ pub agree-none : (m l : ℕ → ℕ) (n p : ℕ) → p < n → linkAgrees m p (l
 agree-none m l n p h e =
     sym (is-false (links-agree-tested m l n) (λ f. says-false (agrees-tested m p (l p)) e (f p h)))
 
--- one of two does not
-pub agree-none-two : (m l : ℕ → ℕ) (n p : ℕ) → p + 1 < n → both (linkAgrees m p (l p)) (linkAgrees m (p + 1) (l (p + 1))) ≡ false → false ≡ linksAgree m l n
-agree-none-two m l n p h e = go (linkAgrees m p (l p)) refl e
-  where
-    go : (a : Bool) → linkAgrees m p (l p) ≡ a → both a (linkAgrees m (p + 1) (l (p + 1))) ≡ false → false ≡ linksAgree m l n
-    go true f e = agree-none m l n (p + 1) h e
-    go false f e = agree-none m l n p (omega arith) f
-
--- two more do
-pub agree-two : (m l : ℕ → ℕ) (p : ℕ) → ((k : ℕ) → k < p → linkAgrees m k (l k) ≡ true)
-    → both (linkAgrees m p (l p)) (linkAgrees m (p + 1) (l (p + 1))) ≡ true → (k : ℕ) → k < p + 2 → linkAgrees m k (l k) ≡ true
-agree-two m l p before e = go (linkAgrees m p (l p)) refl e
-  where
-    go : (a : Bool) → linkAgrees m p (l p) ≡ a → both a (linkAgrees m (p + 1) (l (p + 1))) ≡ true → (k : ℕ) → k < p + 2 → linkAgrees m k (l k) ≡ true
-    go true f e k h = below-more (λ (i : ℕ). linkAgrees m i (l i) ≡ true) (p + 1) (below-more (λ (i : ℕ). linkAgrees m i (l i) ≡ true) p before f) e k (omega arith)
-    go false f e k h = absurd (false≢true e)
-
--- the last one decides
-pub agree-last : (m l : ℕ → ℕ) (n p : ℕ) → p + 1 ≡ n → ((k : ℕ) → k < p → linkAgrees m k (l k) ≡ true) → linkAgrees m p (l p) ≡ linksAgree m l n
-agree-last m l n p e before = go (linkAgrees m p (l p)) refl
-  where
-    go : (a : Bool) → linkAgrees m p (l p) ≡ a → a ≡ linksAgree m l n
-    go true f = agree-all m l n (λ k h. below-more (λ (i : ℕ). linkAgrees m i (l i) ≡ true) p before f k (omega arith))
-    go false f = agree-none m l n p (omega arith) f
+-- a link that the pattern has itself at that position does
+pub agrees-own : (m : ℕ → ℕ) (p d : ℕ) → d ≡ link m p → linkAgrees m p d ≡ true
+agrees-own m p d e = is-true (agrees-tested m p d) (λ pos inside. rw e (link-back m p (omega arith) .same))
 
 -- ---- the flag
 

@@ -2,7 +2,7 @@
 ghost use mathlib.Core.Path.{_≡_};
 ghost use Prim.Native.Nat.{_+_, _-_, _*_, _≤_, _<_};
 ghost use lib.ListN.{length, getD};
-ghost use Rattle.theory.specs.Test.{Tested, both};
+ghost use Rattle.theory.specs.Test.{Tested};
 ghost use Rattle.theory.specs.Store.{stored, storedRows};
 ghost use Rattle.shapes.specs.Refusals.{bufferAfter};
 ghost use Rattle.grid.specs.Counts.{ShapeOf, across, down, countsAfter};
@@ -12,6 +12,7 @@ ghost use Rattle.matching.specs.Compare.{patternAt};
 ghost use Rattle.flags.specs.Flags.{linkAgrees, linksAgree, flagBy, flagFrom, Room};
 ghost use Rattle.flags.specs.Flags.Strips.{flagOf, LinksAre, Wanted, Ready};
 ghost use Rattle.flags.specs.Flags.Links.{Kept};
+ghost use Rattle.flags.specs.Flags.Own.{Own, itself};
 use grid::counts::Shape;
 use grid::counts::distinct_counts;
 use grid::strips::strip_links;
@@ -28,51 +29,34 @@ fn link_agrees(pattern: &[u8], p: usize, d: usize) -> bool
     pattern[p - d] == pattern[p]
 }
 
-// Whether the links of two positions do, one behind the other. Where both do, as in most of a window that the pattern matches, nothing else is asked.
-fn two_agree(pattern: &[u8], p: usize, d: usize, e: usize) -> bool
-    requires { ⌜ p + 1 < length (now pattern) ⌝ }
-    ensures { λ r. ⌜ r ≡ both (linkAgrees (patternAt (now (pattern .entry))) p d) (linkAgrees (patternAt (now (pattern .entry))) (p + 1) e) ⌝ }
-{
-    if link_agrees(pattern, p, d) {
-        return link_agrees(pattern, p + 1, e);
-    }
-    false
-}
-
-// Whether the links of all positions of the window do; base is the strip's position at which the window begins. Two positions a round, so that they share
-// what the loop itself costs; a window of odd size has one left over.
-fn links_agree(pattern: &[u8], links: &[u16], base: usize) -> bool
-    requires { ⌜ base + length (now pattern) ≤ length (now links) ⌝ }
+// Whether the links of all positions of the window do; base is the strip's position at which the window begins. A link that is the pattern's own at that
+// position agrees: so the pattern is looked at only where the two differ.
+fn links_agree(pattern: &[u8], own: &[u16], links: &[u16], base: usize) -> bool
+    requires { ⌜ Own (now pattern) (now own) × (base + length (now pattern) ≤ length (now links)) ⌝ }
     ensures { λ r. ⌜ r ≡ linksAgree (patternAt (now (pattern .entry))) (λ p. getD (now (links .entry)) (base + p) 0) (length (now (pattern .entry))) ⌝ }
 {
     let mut p = 0;
-    while p + 1 < pattern.len() {
-        let q = p + 1;
-        if !two_agree(
-            pattern,
-            p,
-            links[base + p] as usize,
-            links[base + q] as usize,
-        ) {
-            return false;
+    while p < pattern.len() {
+        let d = links[base + p];
+        if d != own[p] {
+            if !link_agrees(pattern, p, d as usize) {
+                return false;
+            }
         }
-        p += 2;
-    }
-    if p < pattern.len() {
-        return link_agrees(pattern, p, links[base + p] as usize);
+        p += 1;
     }
     true
 }
 
 // The flag of the window that begins at base: the links are looked at only where the counts are equal.
-fn flag(pattern: &[u8], symbols: u16, count: u16, links: &[u16], base: usize) -> u8
-    requires { ⌜ base + length (now pattern) ≤ length (now links) ⌝ }
+fn flag(pattern: &[u8], own: &[u16], symbols: u16, count: u16, links: &[u16], base: usize) -> u8
+    requires { ⌜ Own (now pattern) (now own) × (base + length (now pattern) ≤ length (now links)) ⌝ }
     ensures { λ r. ⌜ r ≡ flagBy (patternAt (now (pattern .entry))) symbols count (λ p. getD (now (links .entry)) (base + p) 0) (length (now (pattern .entry))) ⌝ }
 {
     if count != symbols {
         return 0;
     }
-    if links_agree(pattern, links, base) {
+    if links_agree(pattern, own, links, base) {
         return 1;
     }
     0
@@ -81,6 +65,7 @@ fn flag(pattern: &[u8], symbols: u16, count: u16, links: &[u16], base: usize) ->
 // The flags of the windows at column left, from the top down.
 fn flag_strip(
     pattern: &[u8],
+    own: &[u16],
     symbols: u16,
     s: Shape,
     left: usize,
@@ -88,7 +73,7 @@ fn flag_strip(
     links: &[u16],
     flags: &mut [u8],
 )
-    requires { ⌜ Room (s .rows * s .columns) (length (now pattern)) s (length (now links)) (length (now counts)) (length (now flags)) × (left < across s) ⌝ }
+    requires { ⌜ Room (s .rows * s .columns) (length (now pattern)) s (length (now links)) (length (now counts)) (length (now flags)) × (left < across s) × Own (now pattern) (now own) ⌝ }
     ensures { λ r. ⌜ now (flags .exit) ≡ stored (flagFrom (now (pattern .entry)) symbols s (now (counts .entry)) (now (links .entry))) (λ top. top * across s + left) (down s) (now (flags .entry)) ⌝ }
 {
     let across = s.columns + 1 - s.width;
@@ -96,7 +81,7 @@ fn flag_strip(
     let mut top = 0;
     while top < down {
         let k = top * across + left;
-        flags[k] = flag(pattern, symbols, counts[k], links, top * s.width);
+        flags[k] = flag(pattern, own, symbols, counts[k], links, top * s.width);
         top += 1;
     }
 }
@@ -134,6 +119,7 @@ fn needed_links(text: &[u8], symbols: u16, s: Shape, left: usize, counts: &[u16]
 fn flag_column(
     text: &[u8],
     pattern: &[u8],
+    own: &[u16],
     symbols: u16,
     s: Shape,
     left: usize,
@@ -141,32 +127,33 @@ fn flag_column(
     links: &mut [u16],
     flags: &mut [u8],
 )
-    requires { ⌜ Ready (now text) (now pattern) symbols s (now counts) (length (now links)) (length (now flags)) × (left < across s) ⌝ }
+    requires { ⌜ Ready (now text) (now pattern) symbols s (now counts) (length (now links)) (length (now flags)) × (left < across s) × Own (now pattern) (now own) ⌝ }
     ensures { λ r. ⌜ now (flags .exit) ≡ stored (flagOf (now (text .entry)) (now (pattern .entry)) s) (λ top. top * across s + left) (down s) (now (flags .entry)) ⌝ }
     ensures { λ r. ⌜ Kept (s .rows * s .width) (now (links .entry)) (now (links .exit)) ⌝ }
 {
     needed_links(text, symbols, s, left, counts, links);
-    flag_strip(pattern, symbols, s, left, counts, links, flags);
+    flag_strip(pattern, own, symbols, s, left, counts, links, flags);
 }
 
 // The flags of all windows, strip by strip.
 fn flag_windows(
     text: &[u8],
     pattern: &[u8],
+    own: &[u16],
     symbols: u16,
     s: Shape,
     counts: &[u16],
     links: &mut [u16],
     flags: &mut [u8],
 )
-    requires { ⌜ Ready (now text) (now pattern) symbols s (now counts) (length (now links)) (length (now flags)) ⌝ }
+    requires { ⌜ Ready (now text) (now pattern) symbols s (now counts) (length (now links)) (length (now flags)) × Own (now pattern) (now own) ⌝ }
     ensures { λ r. ⌜ now (flags .exit) ≡ storedRows (flagOf (now (text .entry)) (now (pattern .entry)) s) (λ left top. top * across s + left) (across s) (down s) (now (flags .entry)) ⌝ }
     ensures { λ r. ⌜ Kept (s .rows * s .width) (now (links .entry)) (now (links .exit)) ⌝ }
 {
     let across = s.columns + 1 - s.width;
     let mut left = 0;
     while left < across {
-        flag_column(text, pattern, symbols, s, left, counts, links, flags);
+        flag_column(text, pattern, own, symbols, s, left, counts, links, flags);
         left += 1;
     }
 }
@@ -181,6 +168,21 @@ fn clear(links: &mut [u16], n: usize)
         links[p] = 0;
         p += 1;
     }
+}
+
+// No links yet: room for those of the largest pattern.
+fn no_links() -> [u16; 65025]
+    ensures { λ r. ⌜ length r ≡ 65025 ⌝ }
+{
+    [0u16; 65025]
+}
+
+// The pattern's own links: those of the strip that is all of it, where the pattern is taken for a text.
+fn own_links(pattern: &[u8], s: Shape, own: &mut [u16])
+    requires { ⌜ ShapeOf (itself s) (length (now pattern)) × (length (now pattern) ≤ length (now own)) ⌝ }
+    ensures { λ r. ⌜ Own (now (pattern .entry)) (now (own .exit)) ⌝ }
+{
+    strip_links(pattern, s.height, s.width, s.width, 0, own);
 }
 
 // How many different symbols the pattern has.
@@ -207,6 +209,8 @@ pub fn flag_all(
 {
     let symbols = pattern_size(pattern);
     distinct_counts(text, s.rows, s.columns, s.height, s.width, counts);
-    flag_windows(text, pattern, symbols, s, counts, links, flags);
+    let mut own = no_links();
+    own_links(pattern, s, &mut own);
+    flag_windows(text, pattern, &own, symbols, s, counts, links, flags);
     clear(links, s.rows * s.width);
 }

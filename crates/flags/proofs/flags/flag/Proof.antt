@@ -11,7 +11,7 @@ use Rattle.flags.proofs.flags.flag.Tie as tie
 
 returns : tie.Need-returns
 returns c =
-    let a = c .before .before .before .args in
+    let a = c .before .before .before .before .args in
     flag-unequal (patternAt (a .pattern .now)) _ _ (λ p. getD (a .links .now) (a .base + p) 0) (length (a .pattern .now)) (c .if1 .taken)
 
 links-agree-requires : tie.Need-links-agree-requires
@@ -19,13 +19,13 @@ links-agree-requires c κs = search needs
 
 returns-2 : tie.Need-returns-2
 returns-2 c =
-    let a = c .before .before .before .before .before .args in
+    let a = c .before .before .before .before .before .before .args in
     flag-agree (patternAt (a .pattern .now)) _ _ (λ p. getD (a .links .now) (a .base + p) 0) (length (a .pattern .now)) (c .before .before .if1 .left)
     (sym (c .before .links-agree .ensures) ∙ c .if2 .taken)
 
 returns-3 : tie.Need-returns-3
 returns-3 c =
-    let a = c .before .before .before .before .before .args in
+    let a = c .before .before .before .before .before .before .args in
     flag-disagree (patternAt (a .pattern .now)) _ _ (λ p. getD (a .links .now) (a .base + p) 0) (length (a .pattern .now)) (c .before .before .if1 .left)
     (sym (c .before .links-agree .ensures) ∙ c .if2 .left)
 

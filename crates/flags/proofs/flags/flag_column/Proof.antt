@@ -20,7 +20,7 @@ same-length-2 c = search needs
 
 returns : tie.Need-returns
 returns c =
-    let o = c .before .before .before .before .before .before .before .before .before .before .before .before .before .before in
+    let o = c .before .before .before .before .before .before .before .before .before .before .before .before .before .before .before in
     let a = o .args in
     let r = o .pre .0 in
     let k = c .before .before .before .before .before .before .before .needed-links .ensures in (

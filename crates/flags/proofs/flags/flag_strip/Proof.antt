@@ -13,36 +13,36 @@ use Rattle.flags.proofs.flags.flag_strip.Statement.{statement}
 use Rattle.flags.proofs.flags.flag_strip.Tie as tie
 
 abbrev Inv-loop : tie.InvT-loop
-Inv-loop pattern symbols s left counts links flags₀ wide tall top₀ flags top =
+Inv-loop pattern own symbols s left counts links flags₀ wide tall top₀ flags top =
     (top ≤ tall) × (flags ≡ stored (flagFrom pattern symbols s counts links) (λ top. top * across s + left) top flags₀)
 
 abbrev μ-loop : tie.MeasureT-loop
-μ-loop pattern symbols s left counts links flags₀ wide tall top₀ flags top = tall - top
+μ-loop pattern own symbols s left counts links flags₀ wide tall top₀ flags top = tall - top
 
 -- the place of the window whose flag is written
-place-in : (c : tie.In-loop Inv-loop μ-loop) → let a = c .before .before .before .before .before .before .before .before .before .before .args in
+place-in : (c : tie.In-loop Inv-loop μ-loop) → let a = c .before .before .before .before .before .before .before .before .before .before .before .args in
     c .before .loop .top * across (a .s) + a .left < down (a .s) * across (a .s)
 place-in c =
-    let o = c .before .before .before .before .before .before .before .before .before .before in
+    let o = c .before .before .before .before .before .before .before .before .before .before .before in
     place-lt (across (o .args .s)) (down (o .args .s)) (c .before .loop .top) (o .args .left) (o .pre .1) (c .loop-test .taken)
 
-place-small : (c : tie.In-loop Inv-loop μ-loop) → let a = c .before .before .before .before .before .before .before .before .before .before .args in
+place-small : (c : tie.In-loop Inv-loop μ-loop) → let a = c .before .before .before .before .before .before .before .before .before .before .before .args in
     c .before .loop .top * across (a .s) + a .left < 255 * 255
 place-small c =
-    let o = c .before .before .before .before .before .before .before .before .before .before in
+    let o = c .before .before .before .before .before .before .before .before .before .before .before in
     omega (arith, place-in c, windows-small (o .args .s) _ (o .pre .0 .shape))
 
 -- its rows lie in the strip
-part : (c : tie.In-loop Inv-loop μ-loop) → let a = c .before .before .before .before .before .before .before .before .before .before .args in
+part : (c : tie.In-loop Inv-loop μ-loop) → let a = c .before .before .before .before .before .before .before .before .before .before .before .args in
     c .before .loop .top * a .s .width + a .s .height * a .s .width ≤ a .s .rows * a .s .width
 part c =
-    let a = c .before .before .before .before .before .before .before .before .before .before .args in
+    let a = c .before .before .before .before .before .before .before .before .before .before .before .args in
     strip-part (c .before .loop .top) (a .s .height) (a .s .rows) (a .s .width) (omega arith)
 
-length-flags : (c : tie.At-loop Inv-loop μ-loop) → length (c .loop .flags) ≡ length (now (c .before .before .before .before .before .before .before .before .before .args .flags))
+length-flags : (c : tie.At-loop Inv-loop μ-loop) → length (c .loop .flags) ≡ length (now (c .before .before .before .before .before .before .before .before .before .before .args .flags))
 length-flags c = ap length (c .loop .inv .1) ∙ length-stored _ _ (c .loop .top) _
 
-all : (c : tie.After-loop Inv-loop μ-loop) → c .before .loop .top ≡ down (c .before .before .before .before .before .before .before .before .before .before .args .s)
+all : (c : tie.After-loop Inv-loop μ-loop) → c .before .loop .top ≡ down (c .before .before .before .before .before .before .before .before .before .before .before .args .s)
 all c = omega arith
 
 add-across : tie.Need-add-across Inv-loop μ-loop
@@ -70,22 +70,22 @@ mul-flag : tie.Need-mul-flag Inv-loop μ-loop
 mul-flag c = omega (arith, place-small c)
 
 shared-slice-read-flag : tie.Need-shared-slice-read-flag Inv-loop μ-loop
-shared-slice-read-flag c = omega (arith, place-in (c .before), c .before .before .before .before .before .before .before .before .before .before .before .pre .0 .counts-room)
+shared-slice-read-flag c = omega (arith, place-in (c .before), c .before .before .before .before .before .before .before .before .before .before .before .before .pre .0 .counts-room)
 
 mul-flag-2 : tie.Need-mul-flag-2 Inv-loop μ-loop
 mul-flag-2 c =
-    let o = c .before .before .before .before .before .before .before .before .before .before .before .before in
+    let o = c .before .before .before .before .before .before .before .before .before .before .before .before .before in
     omega (arith, part (c .before .before), strip-small (o .args .s) _ (o .pre .0 .shape))
 
 flag-requires : tie.Need-flag-requires Inv-loop μ-loop
 flag-requires c κs =
-    let o = c .before .before .before .before .before .before .before .before .before .before .before .before in
-    omega (arith, part (c .before .before), o .pre .0 .size, o .pre .0 .links-room)
+    let o = c .before .before .before .before .before .before .before .before .before .before .before .before .before in
+    (o .pre .2, omega (arith, part (c .before .before), o .pre .0 .size, o .pre .0 .links-room))
 
 slice-write-flags : tie.Need-slice-write-flags Inv-loop μ-loop
 slice-write-flags c =
     let p = place-in (c .before .before .before) in
-    omega (arith, length-flags (c .before .before .before .before), c .before .before .before .before .before .before .before .before .before .before .before .before .before .pre .0 .flags-room)
+    omega (arith, length-flags (c .before .before .before .before), c .before .before .before .before .before .before .before .before .before .before .before .before .before .before .pre .0 .flags-room)
 
 add-top : tie.Need-add-top Inv-loop μ-loop
 add-top c = omega arith
@@ -95,7 +95,7 @@ loop-less c = omega arith
 
 loop-again : tie.Need-loop-again Inv-loop μ-loop
 loop-again c =
-    let o = c .before .before .before .before .before .before .before .before .before .before .before .before .before in
+    let o = c .before .before .before .before .before .before .before .before .before .before .before .before .before .before in
     let a = o .args in
     let i = c .before .before .before .before .loop in (
       omega arith,
