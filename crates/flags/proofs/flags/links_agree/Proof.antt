@@ -21,18 +21,6 @@ Inv-loop pattern own links base p₀ p =
 abbrev μ-loop : tie.MeasureT-loop
 μ-loop pattern own links base p₀ p = length pattern - p
 
--- the link of a position that was passed agrees
-next : (c : tie.Joined1 Inv-loop μ-loop) → let i = c .before .before .before .before in
-    let a = i .before .before .before .before .args in
-    linkAgrees (patternAt (a .pattern .now)) (i .loop .p) (getD (a .links .now) (a .base + i .loop .p) 0) ≡ true
-next c =
-    let i = c .before .before .before .before in
-    let o = i .before .before .before .before in
-    ⊎-elim
-    (λ w. sym (w .1 .ensures) ∙ not-false _ (w .2 .left))
-    (λ w. agrees-own (patternAt (o .args .pattern .now)) (i .loop .p) _ (w .left ∙ o .pre .0 .link-is (i .loop .p) (omega arith)))
-    (c .if1 .came)
-
 loop-holds : tie.Need-loop-holds Inv-loop μ-loop
 loop-holds c = (omega arith, λ k h. absurd (none k h))
   where
@@ -74,6 +62,20 @@ add-p c = omega arith
 
 loop-less : tie.Need-loop-less Inv-loop μ-loop
 loop-less c = omega arith
+
+-- the link of the position that was passed agrees
+abbrev Agrees : tie.Joined1 Inv-loop μ-loop → Type 0
+Agrees c =
+    let i = c .before .before .before .before in
+    let a = i .before .before .before .before .args in
+    linkAgrees (patternAt (a .pattern .now)) (i .loop .p) (getD (a .links .now) (a .base + i .loop .p) 0) ≡ true
+
+next : (c : tie.Joined1 Inv-loop μ-loop) → Agrees c
+next c =
+    let i = c .before .before .before .before in
+    let o = i .before .before .before .before in
+    ⊎-elim {C = Agrees c} (λ w. sym (w .1 .ensures) ∙ not-false _ (w .2 .left))
+    (λ w. agrees-own (patternAt (o .args .pattern .now)) (i .loop .p) _ (w .left ∙ o .pre .0 .link-is (i .loop .p) (omega arith))) (c .if1 .came)
 
 loop-again : tie.Need-loop-again Inv-loop μ-loop
 loop-again c = (omega arith, below-more _ _ (c .before .before .before .before .loop .inv .1) (next c))
