@@ -6,12 +6,14 @@ use mathlib.Core.Path.{_≡_, refl, sym, _∙_, ap}
 use mathlib.Core.Bool.{Bool}
 use mathlib.Core.List.{List}
 use Prim.Native.Nat.{ℕ, _+_, _-_, _*_, _≤_, _<_}
+use native.Mathlib.Nat.{add-mul, one-mul, mul-le-mul-right}
 use native.Mathlib.Omega.{arith}
 use lib.ListN.{length, getD, set, take, drop}
-use lib.Seq.{getD-set-same, getD-set-other}
+use lib.Seq.{getD-set-same, getD-set-other, ext-getD}
 use Rattle.theory.specs.Test.{Tested, holds, fails, lt-tested}
+use Rattle.sets.specs.Repeats.{Repeats}
 use Rattle.matching.specs.Compare.{patternAt, windowOf, cellsOf, Placed}
-use Rattle.matching.specs.Compare.Rows.{RowAt, row-first, rows-behind, row-below, length-row, row-pattern, row-window}
+use Rattle.matching.specs.Compare.Rows.{RowAt, row-first, rows-behind, row-below, row-fits, cells-fit, length-row, row-pattern, row-window}
 use Rattle.matching.specs.declared.compare.WindowPlace.{WindowPlace}
 
 -- each cell's symbol has the window's symbol as its image, written as base + the symbol
@@ -85,6 +87,30 @@ module _ (base : ℕ) (row cells old : List ℕ) where
       let two : j + 1 + 1 ≡ j + 2 = omega arith in
       rw two at (row-more (j + 1) (t .between) next (row-more j new (t .between) here (t .first)) (t .second))
 
+-- ---- two rows
+
+-- their first n cells are the same
+pub record SameCells (a b : List ℕ) (n : ℕ) : Type 0 where
+  pub same : (k : ℕ) → k < n → getD a k 0 ≡ getD b k 0
+
+module _ (a b : List ℕ) where
+  pub same-none : SameCells a b 0
+  same-none = record { same = λ k h. absurd (none k h) }
+    where
+      none : (k : ℕ) → k < 0 → ⊥
+      none k h = omega arith
+
+  -- one cell more
+  pub same-more : (n : ℕ) → SameCells a b n → getD a n 0 ≡ getD b n 0 → SameCells a b (n + 1)
+  same-more n here e = record { same = λ k h. go k h (lt-tested k n) }
+    where
+      go : (k : ℕ) {t : Bool} → k < n + 1 → Tested (k < n) t → getD a k 0 ≡ getD b k 0
+      go k h (holds l) = here .same k l
+      go k h (fails m) = let last : k ≡ n = omega arith in rw last e
+
+  pub same-all : (n : ℕ) → length a ≤ n → length a ≡ length b → SameCells a b n → a ≡ b
+  same-all n all long here = ext-getD 0 a b long (λ k h. here .same k (omega arith))
+
 -- ---- all rows
 
 -- i rows of the window are carried
@@ -127,3 +153,70 @@ module _ (text : List ℕ) (v : WindowPlace) (pattern : List ℕ) (base : ℕ) w
         go p h (fails n) =
             let e : from + (p - from) ≡ p = omega arith in
             rw e at (in-row (p - from) (omega arith))
+
+  -- a row that the pattern repeats: it is the row that stands period rows further up, in the pattern and in the window, and that one is carried
+  module _ (placed : Placed text v) (cells-are : length pattern ≡ cellsOf v) (i start from : ℕ) (images : List ℕ) (inside : i < v .height)
+      (here : RowsCarried text v pattern base i start from images) (period : ℕ) (some : 1 ≤ period) (below : period ≤ i) (repeats : Repeats pattern (period * v .width)) where
+    -- where that row begins
+    abbrev up : ℕ
+    up = start - period * v .columns
+
+    abbrev before : ℕ
+    before = from - period * v .width
+
+    above : RowAt v (i - period) up before
+    above =
+        record {
+          within = omega (arith, here .place .within);
+          start-is = omega (arith, here .place .start-is, parted (v .row + (i - period)) period (v .columns), whole-rows);
+          from-is = omega (arith, here .place .from-is, parted (i - period) period (v .width), whole);
+        }
+      where
+        parted : (a b c : ℕ) → (a + b) * c ≡ a * c + b * c
+        parted a b c = add-mul a b c
+
+        whole : (i - period + period) * v .width ≡ i * v .width
+        whole = ap (λ (x : ℕ). x * v .width) (omega arith)
+
+        whole-rows : (v .row + (i - period) + period) * v .columns ≡ (v .row + i) * v .columns
+        whole-rows = ap (λ (x : ℕ). x * v .columns) (omega arith)
+
+    -- it lies in the text
+    pub up-fits : up + v .width ≤ length text
+    up-fits = row-fits v (i - period) up before (omega arith) above text pattern placed cells-are
+
+    pub up-le : period * v .columns ≤ start
+    up-le = omega (arith, here .place .start-is, mul-le-mul-right (v .columns) below, add-mul (v .row) i (v .columns))
+
+    before-le : period * v .width ≤ from
+    before-le = omega (arith, here .place .from-is, mul-le-mul-right (v .width) below)
+
+    gap-wide : v .width ≤ period * v .width
+    gap-wide = omega (arith, mul-le-mul-right (v .width) some, one-mul (v .width))
+
+    module _ (row : List ℕ) (er : row ≡ take (v .width) (drop start text)) (eu : row ≡ take (v .width) (drop up text)) where
+      same-window : (j : ℕ) → j < v .width → windowOf text v (before + j) ≡ windowOf text v (from + j)
+      same-window j h =
+          sym (row-window v (i - period) up before (omega arith) above text pattern placed cells-are row (take (v .width) (drop before pattern)) eu refl j h)
+          ∙ row-window v i start from inside (here .place) text pattern placed cells-are row (take (v .width) (drop from pattern)) er refl j h
+
+      same-pattern : (j : ℕ) → j < v .width → patternAt pattern (before + j) ≡ patternAt pattern (from + j)
+      same-pattern j h =
+          let fit = cells-fit v i start from inside (here .place) text pattern placed cells-are in
+          let on : before + j + period * v .width ≡ from + j = omega (arith, before-le) in
+          repeats .same (before + j) (omega (arith, on, fit)) ∙ ap (patternAt pattern) on
+
+      pub rows-again : RowsCarried text v pattern base (i + 1) (start + v .columns) (from + v .width) images
+      rows-again = record { place = row-below v i start from inside (here .place); long = here .long; carried = record { carries = λ p h. go p h (lt-tested p from) } }
+        where
+          in-row : (j : ℕ) → j < v .width → getD images (patternAt pattern (from + j)) 0 ≡ base + windowOf text v (from + j)
+          in-row j h =
+              ap (λ (x : ℕ). getD images x 0) (sym (same-pattern j h))
+              ∙ here .carried .carries (before + j) (omega (arith, before-le, gap-wide))
+              ∙ ap (λ (x : ℕ). base + x) (same-window j h)
+
+          go : (p : ℕ) {t : Bool} → p < from + v .width → Tested (p < from) t → getD images (patternAt pattern p) 0 ≡ base + windowOf text v p
+          go p h (holds l) = here .carried .carries p l
+          go p h (fails n) =
+              let e : from + (p - from) ≡ p = omega arith in
+              rw e at (in-row (p - from) (omega arith))

@@ -2,10 +2,11 @@
 // an entry below it counts for nothing.
 ghost use mathlib.Core.Path.{_≡_};
 ghost use mathlib.Core.Bool.{true};
-ghost use Prim.Native.Nat.{_≤_};
+ghost use Prim.Native.Nat.{_+_, _≤_, _<_};
 ghost use lib.ListN.{length};
 ghost use Rattle.matching.specs.Compare.{patternAt, windowOf, cellsOf, Placed};
-ghost use Rattle.claims.specs.Carries.{CellCarried, TwoCarried, RowCarried, Carried};
+ghost use Rattle.sets.specs.Repeats.{RowsRepeat};
+ghost use Rattle.claims.specs.Carries.{CellCarried, TwoCarried, RowCarried, RowsCarried, Carried};
 use matching::compare::WindowPlace;
 
 // One cell: whether symbol a of the pattern may have c as its image in this window. If it has none yet, it gets it.
@@ -64,30 +65,75 @@ fn row_carries(row: &[u8], cells: &[u8], base: u32, images: &mut [u32; 256]) -> 
     true
 }
 
+// Whether two rows are the same. It goes on behind a difference: so the compiler takes many cells at a time.
+fn same_cells(a: &[u8], b: &[u8]) -> bool
+    requires { ⌜ length (now a) ≡ length (now b) ⌝ }
+    ensures { λ r. ⌜ (r ≡ true → now (a .entry) ≡ now (b .entry)) ⌝ }
+{
+    let mut same = true;
+    let mut j = 0;
+    while j < a.len() {
+        if a[j] != b[j] {
+            same = false;
+        }
+        j += 1;
+    }
+    same
+}
+
+// The next row, after i rows that are carried: it begins at start in the text and at from in the pattern. Where the pattern repeats a row, period rows
+// further down, the window has to repeat it too, and no image is asked for.
+fn carry_row(
+    text: &[u8],
+    v: WindowPlace,
+    pattern: &[u8],
+    period: usize,
+    base: u32,
+    images: &mut [u32; 256],
+    i: usize,
+    start: usize,
+    from: usize,
+) -> bool
+    requires { ⌜ Placed (now text) v × (length (now pattern) ≡ cellsOf v) × RowsRepeat (now pattern) (v .width) period × (base ≤ 16777216) × (i < v .height) × RowsCarried (now text) v (now pattern) base i start from (now images) ⌝ }
+    ensures { λ r. ⌜ (r ≡ true → RowsCarried (now (text .entry)) v (now (pattern .entry)) base (i + 1) (start + v .columns) (from + v .width) (now (images .exit))) ⌝ }
+    ensures { λ r. ⌜ length (now (images .exit)) ≡ 256 ⌝ }
+{
+    let width = v.width;
+    let columns = v.columns;
+    let row = &text[start..start + width];
+    if period <= i {
+        let up = start - period * columns;
+        return same_cells(row, &text[up..up + width]);
+    }
+    let cells = &pattern[from..from + width];
+    row_carries(row, cells, base, images)
+}
+
 // All rows. Where the answer is true, the images carry the pattern onto the window.
 pub fn carries(
     text: &[u8],
     v: WindowPlace,
     pattern: &[u8],
+    period: usize,
     base: u32,
     images: &mut [u32; 256],
 ) -> bool
-    requires { ⌜ Placed (now text) v × (length (now pattern) ≡ cellsOf v) × (length (now images) ≡ 256) × (base ≤ 16777216) ⌝ }
+    requires { ⌜ Placed (now text) v × (length (now pattern) ≡ cellsOf v) × RowsRepeat (now pattern) (v .width) period × (length (now images) ≡ 256) × (base ≤ 16777216) ⌝ }
     ensures { λ r. ⌜ (r ≡ true → Carried base (patternAt (now (pattern .entry))) (windowOf (now (text .entry)) v) (cellsOf v) (now (images .exit))) ⌝ }
     ensures { λ r. ⌜ length (now (images .exit)) ≡ 256 ⌝ }
 {
     let height = v.height;
-    let mut start = v.row * v.columns + v.column;
+    let width = v.width;
+    let columns = v.columns;
+    let mut start = v.row * columns + v.column;
     let mut from = 0;
     let mut i = 0;
     while i < height {
-        let row = &text[start..start + v.width];
-        let cells = &pattern[from..from + v.width];
-        if !row_carries(row, cells, base, images) {
+        if !carry_row(text, v, pattern, period, base, images, i, start, from) {
             return false;
         }
-        start += v.columns;
-        from += v.width;
+        start += columns;
+        from += width;
         i += 1;
     }
     true

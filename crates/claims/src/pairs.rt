@@ -7,6 +7,7 @@ ghost use lib.ListN.{length};
 ghost use Rattle.theory.specs.Older.{Older};
 ghost use Rattle.grid.specs.Distinct.{contains};
 ghost use Rattle.sets.specs.Symbols.{symbolsOf};
+ghost use Rattle.sets.specs.Repeats.{RowsRepeat};
 ghost use Rattle.matching.specs.Compare.{patternAt, windowOf, cellsOf, Placed};
 ghost use Rattle.claims.specs.Claims.{hasImage, pairsFrom};
 ghost use Rattle.claims.specs.Pairs.{FoundWindow, Marked, PairRead};
@@ -146,18 +147,19 @@ pub fn found_pairs(
     v: WindowPlace,
     pattern: &[u8],
     symbols: &[u8],
+    period: usize,
     base: u32,
     images: &mut [u32; 256],
     given: &mut [u32; 256],
     listing: &[u8],
     at: usize,
 ) -> Passage
-    requires { ⌜ Placed (now text) v × (length (now pattern) ≡ cellsOf v) × (now symbols ≡ symbolsOf (now pattern)) × (length (now images) ≡ 256) × Older base (now given) × (base ≤ 16777216) ⌝ }
+    requires { ⌜ Placed (now text) v × (length (now pattern) ≡ cellsOf v) × (now symbols ≡ symbolsOf (now pattern)) × (length (now images) ≡ 256) × Older base (now given) × (base ≤ 16777216) × RowsRepeat (now pattern) (v .width) period ⌝ }
     ensures { λ r. ⌜ courseOf r ≡ pairsFrom (patternAt (now (pattern .entry))) (windowOf (now (text .entry)) v) (cellsOf v) (now (listing .entry)) (symbolsOf (now (pattern .entry))) [] at ⌝ }
     ensures { λ r. ⌜ Older (base + 256) (now (given .exit)) ⌝ }
     ensures { λ r. ⌜ length (now (images .exit)) ≡ 256 ⌝ }
 {
-    let carried = carries(text, v, pattern, base, images);
+    let carried = carries(text, v, pattern, period, base, images);
     read_pairs(
         text,
         v,

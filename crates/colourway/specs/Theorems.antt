@@ -123,7 +123,11 @@ read-enough n h input = go (le-tested n (length input))
         (sym (long-output input (omega arith)))
     go (fails k) = ap outputOf (take-all n input (omega arith))
 
--- so reading 32,773 bytes is enough
+-- so a buffer of 32,773 bytes is long enough
+pub long-enough : (buffer : List ℕ) → 32773 ≡ length buffer → (32773 ≡ length buffer) × ((input : List ℕ) → outputOf (take (length buffer) input) ≡ outputOf input)
+long-enough buffer e = (e, read-enough (length buffer) (omega arith))
+
+-- and reading 32,773 bytes is enough
 pub enough-read : (input : List ℕ) → outputOf (take 32773 input) ≡ outputOf input
 enough-read input = read-enough 32773 (omega arith) input
 

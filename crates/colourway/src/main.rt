@@ -3,14 +3,19 @@ mod input;
 mod program;
 
 ghost use mathlib.Core.Path.{_≡_};
-ghost use lib.ListN.{length};
+ghost use mathlib.Core.List.{List};
+ghost use Prim.Native.Nat.{ℕ};
+ghost use lib.ListN.{length, take};
+ghost use Rattle.colourway.specs.Program.{outputOf};
 use libc::STDIN_FILENO;
 use libc::STDOUT_FILENO;
 use program::answer;
 
-// A byte more than the longest input that can be right: 4 sizes and twice 16,384 cells. Theorems.antt says that no more need be read (`enough-read`).
+// A byte more than the longest input that can be right, which has 4 sizes and twice 16,384 cells. Of a longer input no more need be read: what stands behind
+// does not change what is printed.
 fn input_buffer() -> [u8; 32773]
     ensures { λ r. ⌜ 32773 ≡ length r ⌝ }
+    ensures { λ r. ⌜ ((input : List ℕ) → outputOf (take (length r) input) ≡ outputOf input) ⌝ }
 {
     [0; 32773]
 }

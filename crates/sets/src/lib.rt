@@ -1,2 +1,3 @@
-// The lower library's second part: sets of symbols.
+// The lower library's second part: sets of symbols, and after how many rows a pattern repeats.
+pub mod repeats;
 pub mod symbols;

@@ -6,6 +6,7 @@ ghost use lib.ListN.{length};
 ghost use Rattle.theory.specs.Older.{Older};
 ghost use Rattle.theory.specs.Test.{both};
 ghost use Rattle.sets.specs.Symbols.{symbolsOf};
+ghost use Rattle.sets.specs.Repeats.{RowsRepeat};
 ghost use Rattle.matching.specs.Compare.{cellsOf, Placed};
 ghost use Rattle.shapes.specs.declared.refusals.Refusal.the-variants.{ListingFalse};
 ghost use Rattle.claims.specs.Claims.{goes, orStop};
@@ -57,13 +58,14 @@ pub fn read_entry(
     v: WindowPlace,
     pattern: &[u8],
     symbols: &[u8],
+    period: usize,
     base: u32,
     images: &mut [u32; 256],
     given: &mut [u32; 256],
     listing: &[u8],
     at: usize,
 ) -> Passage
-    requires { ⌜ Placed (now text) v × (length (now pattern) ≡ cellsOf v) × (now symbols ≡ symbolsOf (now pattern)) × (length (now images) ≡ 256) × Older base (now given) × (base ≤ 16777216) ⌝ }
+    requires { ⌜ Placed (now text) v × (length (now pattern) ≡ cellsOf v) × (now symbols ≡ symbolsOf (now pattern)) × (length (now images) ≡ 256) × Older base (now given) × (base ≤ 16777216) × RowsRepeat (now pattern) (v .width) period ⌝ }
     ensures { λ r. ⌜ courseOf r ≡ entryFrom (now (text .entry)) (now (pattern .entry)) v (now (listing .entry)) at ⌝ }
     ensures { λ r. ⌜ Older (base + 256) (now (given .exit)) ⌝ }
     ensures { λ r. ⌜ length (now (images .exit)) ≡ 256 ⌝ }
@@ -82,6 +84,7 @@ pub fn read_entry(
                 v,
                 pattern,
                 symbols,
+                period,
                 base,
                 images,
                 given,

@@ -7,12 +7,14 @@ ghost use Rattle.theory.specs.Older.{Older};
 ghost use Rattle.theory.specs.Test.{pick};
 ghost use Rattle.grid.specs.Counts.{ShapeOf};
 ghost use Rattle.sets.specs.Symbols.{symbolsOf};
+ghost use Rattle.sets.specs.Repeats.{RowsRepeat};
 ghost use Rattle.verify.specs.Windows.{WindowsWalked};
 use crate::entries::read_entry;
 use claims::passages::Passage;
 use grid::counts::Shape;
 use matching::compare::WindowPlace;
 use matching::windows::next_window;
+use sets::repeats::row_period;
 use sets::symbols::list_symbols;
 use sets::symbols::symbols_of;
 use shapes::refusals::Refusal;
@@ -54,11 +56,12 @@ fn walk_windows(
     pattern: &[u8],
     s: Shape,
     symbols: &[u8],
+    period: usize,
     images: &mut [u32; 256],
     given: &mut [u32; 256],
     listing: &[u8],
 ) -> Walked
-    requires { ⌜ ShapeOf s (length (now text)) × (length (now pattern) ≡ s .height * s .width) × (now symbols ≡ symbolsOf (now pattern)) × (length (now images) ≡ 256) × Older 256 (now given) ⌝ }
+    requires { ⌜ ShapeOf s (length (now text)) × (length (now pattern) ≡ s .height * s .width) × (now symbols ≡ symbolsOf (now pattern)) × (length (now images) ≡ 256) × Older 256 (now given) × RowsRepeat (now pattern) (s .width) period ⌝ }
     ensures { λ r. ⌜ WindowsWalked (now (text .entry)) (now (pattern .entry)) s (now (listing .entry)) r ⌝ }
 {
     let across = s.columns + 1 - s.width;
@@ -75,7 +78,18 @@ fn walk_windows(
     let mut found = 0u16;
     let mut k = 0;
     while k < n {
-        let step = read_entry(text, v, pattern, symbols, base, images, given, listing, at);
+        let step = read_entry(
+            text,
+            v,
+            pattern,
+            symbols,
+            period,
+            base,
+            images,
+            given,
+            listing,
+            at,
+        );
         match step {
             Passage::Stopped(why) => {
                 return Walked::Stopped(why);
@@ -92,7 +106,8 @@ fn walk_windows(
     Walked::Passed { at, found }
 }
 
-// The records of every window, from the listing's first byte. The pattern's symbols are listed once, and not again for each window.
+// The records of every window, from the listing's first byte. The pattern's symbols are listed once, and after how many rows it repeats is
+// found once, and not again for each window.
 pub fn read_windows(text: &[u8], pattern: &[u8], s: Shape, listing: &[u8]) -> Walked
     requires { ⌜ ShapeOf s (length (now text)) × (length (now pattern) ≡ s .height * s .width) ⌝ }
     ensures { λ r. ⌜ WindowsWalked (now (text .entry)) (now (pattern .entry)) s (now (listing .entry)) r ⌝ }
@@ -100,6 +115,7 @@ pub fn read_windows(text: &[u8], pattern: &[u8], s: Shape, listing: &[u8]) -> Wa
     let set = symbols_of(pattern);
     let mut listed = no_symbols();
     let d = list_symbols(set, &mut listed);
+    let period = row_period(pattern, s.height, s.width);
     let mut images = no_entries();
     let mut given = no_entries();
     walk_windows(
@@ -107,6 +123,7 @@ pub fn read_windows(text: &[u8], pattern: &[u8], s: Shape, listing: &[u8]) -> Wa
         pattern,
         s,
         &listed[..d],
+        period,
         &mut images,
         &mut given,
         listing,

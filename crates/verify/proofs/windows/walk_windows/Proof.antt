@@ -10,6 +10,7 @@ use denote.Ref.{now}
 use Rattle.theory.specs.Older.{Older}
 use Rattle.grid.specs.Counts.{across, down, windows-small}
 use Rattle.matching.specs.Windows.{windowPlace, window-first, window-next, step-asks}
+use Rattle.matching.specs.declared.compare.WindowPlace.{WindowPlace}
 use Rattle.claims.specs.Claims.{goes, stops}
 use Rattle.verify.specs.Check.{entryFrom, windowsTo, foundTo}
 use Rattle.claims.specs.Passages.{courseOf}
@@ -19,13 +20,13 @@ use Rattle.verify.proofs.windows.walk_windows.Statement.{statement}
 use Rattle.verify.proofs.windows.walk_windows.Tie as tie
 
 abbrev Inv-loop : tie.InvT-loop
-Inv-loop text pattern symbols images₀ given₀ listing across n v₀ base₀ at₀ found₀ k₀ images given v base at found k =
+Inv-loop text pattern symbols period images₀ given₀ listing across n v₀ base₀ at₀ found₀ k₀ images given v base at found k =
     (k ≤ n) × (v ≡ windowPlace (v₀ .columns) (v₀ .height) (v₀ .width) k) × (base ≡ 256 + k * 256) × (length images ≡ 256) × Older base given
     × (windowsTo text (v₀ .columns) pattern (v₀ .height) (v₀ .width) listing k ≡ goes at)
     × (found ≡ foundTo text (v₀ .columns) pattern (v₀ .height) (v₀ .width) listing k)
 
 abbrev μ-loop : tie.MeasureT-loop
-μ-loop text pattern symbols images₀ given₀ listing across n v₀ base₀ at₀ found₀ k₀ images given v base at found k = n - k
+μ-loop text pattern symbols period images₀ given₀ listing across n v₀ base₀ at₀ found₀ k₀ images given v base at found k = n - k
 
 add-across : tie.Need-add-across Inv-loop μ-loop
 add-across c = omega arith
@@ -70,6 +71,7 @@ read-entry-requires c κs =
       i .inv .3,
       i .inv .4,
       omega (arith, i .inv .2, t, windows-small (a .s) _ (o .pre .0)),
+      rw (ap (λ (v : WindowPlace). v .width) (i .inv .1)) (o .pre .5),
     )
 
 enum-known-step : tie.Need-enum-known-step Inv-loop μ-loop
