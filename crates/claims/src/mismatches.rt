@@ -27,7 +27,7 @@ fn pattern_symbol(pattern: &[u8], v: WindowPlace, cell: Place) -> u8
 }
 
 // The window's symbol in that cell, read where it stands in the text.
-fn window_symbol(text: &[u8], v: WindowPlace, cell: Place) -> u8
+fn window_symbol_in(text: &[u8], v: WindowPlace, cell: Place) -> u8
     requires { ⌜ Placed (now text) v × (cell .row < v .height) × (cell .column < v .width) ⌝ }
     ensures { λ r. ⌜ r ≡ windowOf (now (text .entry)) v (cell .row * v .width + cell .column) ⌝ }
 {
@@ -50,8 +50,8 @@ fn alike_only(
 {
     let a = pattern_symbol(pattern, v, q);
     let b = pattern_symbol(pattern, v, p);
-    let x = window_symbol(text, v, q);
-    let y = window_symbol(text, v, p);
+    let x = window_symbol_in(text, v, q);
+    let y = window_symbol_in(text, v, p);
     if alike_in_pattern {
         a == b && x != y
     } else {

@@ -1,5 +1,4 @@
-// What a match is: bijections between symbols, and the question whether a pattern matches one window; window after window, and the places of a
-// pattern's symbols.
+// The one-window question: whether a pattern matches the window of its size at a corner; window after window, and the places of a pattern's symbols.
 pub mod compare;
 pub mod places;
 pub mod windows;

@@ -43,7 +43,7 @@ fn megabytes_too_many_are_refused() {
 /// The longest right input with one byte more, and no end: the answer comes while standard input is still open.
 #[test]
 fn an_input_without_an_end_is_refused() {
-    for more in [2, 1_000, 1 << 20] {
+    for more in [1, 2, 1_000, 1 << 20] {
         let (mut child, mut stdout) = started();
         let mut stdin = child.stdin.take().expect("its standard input");
         let mut endless = vec![7; LONGEST + more];

@@ -16,7 +16,7 @@ use Rattle.claims.proofs.mismatches.alike_only.Statement.{statement}
 use Rattle.claims.proofs.mismatches.alike_only.Tie as tie
 
 -- where the call begins
-abbrev entry : tie.After-window-symbol2 → tie.Start
+abbrev entry : tie.After-window-symbol-in2 → tie.Start
 entry c = c .before .before .before .before .before .before
 
 -- what is asked
@@ -27,24 +27,24 @@ wanted o =
     (a .q .row * a .v .width + a .q .column) (a .p .row * a .v .width + a .p .column)
 
 -- the two tests on the pattern's side, and on the window's
-by-pattern : (c : tie.After-window-symbol2) → entry c .args .alike-in-pattern ≡ true
+by-pattern : (c : tie.After-window-symbol-in2) → entry c .args .alike-in-pattern ≡ true
     → both (eqb (c .before .before .before .pattern-symbol .result) (c .before .before .pattern-symbol2 .result))
-    (not (eqb (c .before .window-symbol .result) (c .window-symbol2 .result)))
+    (not (eqb (c .before .window-symbol-in .result) (c .window-symbol-in2 .result)))
     ≡ wanted (entry c)
 by-pattern c s =
     let a = entry c .args in
     alike-in-pattern (patternAt (now (a .pattern))) (windowOf (now (a .text)) (a .v)) _ _ _ _ _ _
-    (c .before .before .before .pattern-symbol .ensures) (c .before .before .pattern-symbol2 .ensures) (c .before .window-symbol .ensures) (c .window-symbol2 .ensures)
+    (c .before .before .before .pattern-symbol .ensures) (c .before .before .pattern-symbol2 .ensures) (c .before .window-symbol-in .ensures) (c .window-symbol-in2 .ensures)
     (a .alike-in-pattern) s
 
-by-window : (c : tie.After-window-symbol2) → entry c .args .alike-in-pattern ≡ false
-    → both (eqb (c .before .window-symbol .result) (c .window-symbol2 .result))
+by-window : (c : tie.After-window-symbol-in2) → entry c .args .alike-in-pattern ≡ false
+    → both (eqb (c .before .window-symbol-in .result) (c .window-symbol-in2 .result))
     (not (eqb (c .before .before .before .pattern-symbol .result) (c .before .before .pattern-symbol2 .result)))
     ≡ wanted (entry c)
 by-window c s =
     let a = entry c .args in
     alike-in-window (patternAt (now (a .pattern))) (windowOf (now (a .text)) (a .v)) _ _ _ _ _ _
-    (c .before .before .before .pattern-symbol .ensures) (c .before .before .pattern-symbol2 .ensures) (c .before .window-symbol .ensures) (c .window-symbol2 .ensures)
+    (c .before .before .before .pattern-symbol .ensures) (c .before .before .pattern-symbol2 .ensures) (c .before .window-symbol-in .ensures) (c .window-symbol-in2 .ensures)
     (a .alike-in-pattern) s
 
 pattern-symbol-requires : tie.Need-pattern-symbol-requires
@@ -53,11 +53,11 @@ pattern-symbol-requires c κs = search needs
 pattern-symbol-requires-2 : tie.Need-pattern-symbol-requires-2
 pattern-symbol-requires-2 c κs = search needs
 
-window-symbol-requires : tie.Need-window-symbol-requires
-window-symbol-requires c κs = search needs
+window-symbol-in-requires : tie.Need-window-symbol-in-requires
+window-symbol-in-requires c κs = search needs
 
-window-symbol-requires-2 : tie.Need-window-symbol-requires-2
-window-symbol-requires-2 c κs = search needs
+window-symbol-in-requires-2 : tie.Need-window-symbol-in-requires-2
+window-symbol-in-requires-2 c κs = search needs
 
 returns : tie.Need-returns
 returns c = first-passes _ _ (eq-eqb _ _ (c .if2 .taken)) ∙ by-pattern (c .before .before) (c .before .if1 .taken)
@@ -77,8 +77,8 @@ alike-only-spec =
     (tie.spec
     pattern-symbol-requires
     pattern-symbol-requires-2
-    window-symbol-requires
-    window-symbol-requires-2
+    window-symbol-in-requires
+    window-symbol-in-requires-2
     returns
     returns-2
     returns-3

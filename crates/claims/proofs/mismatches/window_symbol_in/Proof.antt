@@ -1,4 +1,4 @@
--- `mismatches::window_symbol` meets its contract: the place is formed as the window's reading says (`window-cell`), and lies in the text.
+-- `mismatches::window_symbol_in` meets its contract: the place is formed as the window's reading says (`window-cell`), and lies in the text.
 -- Assumes nothing.
 use mathlib.Core.Path.{sym}
 use native.Mathlib.Omega.{arith}
@@ -9,8 +9,8 @@ use denote.Ref.{now}
 use Rattle.shapes.specs.Windows.{window-cell}
 use Rattle.matching.specs.Compare.Positions.{rows-small}
 use Rattle.claims.specs.Mismatches.{cell-in-text}
-use Rattle.claims.proofs.mismatches.window_symbol.Statement.{statement}
-use Rattle.claims.proofs.mismatches.window_symbol.Tie as tie
+use Rattle.claims.proofs.mismatches.window_symbol_in.Statement.{statement}
+use Rattle.claims.proofs.mismatches.window_symbol_in.Tie as tie
 
 inside : (o : tie.Start) → let a = o .args in
     ((a .v .row + a .cell .row) * a .v .columns + a .v .column + a .cell .column < length (now (a .text))) × (length (now (a .text)) ≤ 65025)
@@ -43,8 +43,8 @@ returns c =
     let a = o .args in
     sym (window-cell (now (a .text)) (a .v .columns) (a .v .row) (a .v .column) (a .v .width) (a .cell .row) (a .cell .column) (o .pre .2))
 
-pub window-symbol-spec : {M : Type 1} → statement M
-window-symbol-spec =
+pub window-symbol-in-spec : {M : Type 1} → statement M
+window-symbol-in-spec =
     tie.close
     (tie.spec
     cast-row
