@@ -14,7 +14,7 @@ use Rattle.theory.specs.Test.{Tested, holds, fails, lt-tested}
 use Rattle.sets.specs.Repeats.{Repeats}
 use Rattle.matching.specs.Compare.{patternAt, windowOf, cellsOf, Placed}
 use Rattle.matching.specs.Compare.Rows.{RowAt, row-first, rows-behind, row-below, row-fits, cells-fit, length-row, row-pattern, row-window}
-use Rattle.matching.specs.declared.compare.WindowPlace.{WindowPlace}
+use Rattle.shapes.specs.declared.windows.WindowPlace.{WindowPlace}
 
 -- each cell's symbol has the window's symbol as its image, written as base + the symbol
 pub record Carried (base : ℕ) (m w : ℕ → ℕ) (n : ℕ) (images : List ℕ) : Type 0 where

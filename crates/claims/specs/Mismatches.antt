@@ -11,7 +11,7 @@ use lib.ListN.{length}
 use borrow.Author.Tests.{lt-ltb, le-ltb}
 use Rattle.theory.specs.Test.{both, lt-tested, both-tested, says-true}
 use Rattle.matching.specs.Compare.{cellsOf, Placed}
-use Rattle.matching.specs.declared.compare.WindowPlace.{WindowPlace}
+use Rattle.shapes.specs.declared.windows.WindowPlace.{WindowPlace}
 use Rattle.claims.specs.Claims.{cellInside, alikeOnly, trueMismatch}
 
 -- ---- the places of a cell

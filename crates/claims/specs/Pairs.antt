@@ -14,7 +14,7 @@ use Rattle.grid.specs.Distinct.{contains}
 use Rattle.grid.specs.Distinct.Sets.{contains-tested}
 use Rattle.shapes.specs.declared.refusals.Refusal.the-variants.{ListingForm, ListingFalse}
 use Rattle.matching.specs.Compare.{patternAt, windowOf, cellsOf, Placed}
-use Rattle.matching.specs.declared.compare.WindowPlace.{WindowPlace}
+use Rattle.shapes.specs.declared.windows.WindowPlace.{WindowPlace}
 use Rattle.theory.specs.Test.{pick, both, Tested, holds, fails, eq-tested, lt-tested, tested-iff, tested-same, is-true, is-false, says-true}
 use Rattle.theory.specs.First.{every-tested}
 use Rattle.claims.specs.Carries.{Carried}

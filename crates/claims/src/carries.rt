@@ -7,7 +7,7 @@ ghost use lib.ListN.{length};
 ghost use Rattle.matching.specs.Compare.{patternAt, windowOf, cellsOf, Placed};
 ghost use Rattle.sets.specs.Repeats.{RowsRepeat};
 ghost use Rattle.claims.specs.Carries.{CellCarried, TwoCarried, RowCarried, RowsCarried, Carried};
-use matching::compare::WindowPlace;
+use shapes::windows::WindowPlace;
 
 // One cell: whether symbol a of the pattern may have c as its image in this window. If it has none yet, it gets it.
 fn carry_cell(a: u8, c: u8, base: u32, images: &mut [u32; 256]) -> bool
@@ -48,7 +48,9 @@ fn carry_two(a: u8, c: u8, b: u8, d: u8, base: u32, images: &mut [u32; 256]) -> 
 // they share what the loop itself costs; a row of odd length has one left over.
 fn row_carries(row: &[u8], cells: &[u8], base: u32, images: &mut [u32; 256]) -> bool
     requires { ⌜ (length (now cells) ≡ length (now row)) × (length (now images) ≡ 256) × (base ≤ 16777216) ⌝ }
-    ensures { λ r. ⌜ (r ≡ true → RowCarried base (now (row .entry)) (now (cells .entry)) (length (now (row .entry))) (now (images .entry)) (now (images .exit))) ⌝ }
+    ensures { λ r. ⌜
+        (r ≡ true → RowCarried base (now (row .entry)) (now (cells .entry)) (length (now (row .entry)))
+        (now (images .entry)) (now (images .exit))) ⌝ }
     ensures { λ r. ⌜ length (now (images .exit)) ≡ 256 ⌝ }
 {
     let n = row.len();
@@ -94,8 +96,13 @@ fn carry_row(
     start: usize,
     from: usize,
 ) -> bool
-    requires { ⌜ Placed (now text) v × (length (now pattern) ≡ cellsOf v) × RowsRepeat (now pattern) (v .width) period × (base ≤ 16777216) × (i < v .height) × RowsCarried (now text) v (now pattern) base i start from (now images) ⌝ }
-    ensures { λ r. ⌜ (r ≡ true → RowsCarried (now (text .entry)) v (now (pattern .entry)) base (i + 1) (start + v .columns) (from + v .width) (now (images .exit))) ⌝ }
+    requires { ⌜
+        Placed (now text) v × (length (now pattern) ≡ cellsOf v) × RowsRepeat (now pattern) (v .width) period
+        × (base ≤ 16777216) × (i < v .height)
+        × RowsCarried (now text) v (now pattern) base i start from (now images) ⌝ }
+    ensures { λ r. ⌜
+        (r ≡ true → RowsCarried (now (text .entry)) v (now (pattern .entry)) base (i + 1) (start + v .columns)
+        (from + v .width) (now (images .exit))) ⌝ }
     ensures { λ r. ⌜ length (now (images .exit)) ≡ 256 ⌝ }
 {
     let width = v.width;
@@ -118,8 +125,12 @@ pub fn carries(
     base: u32,
     images: &mut [u32; 256],
 ) -> bool
-    requires { ⌜ Placed (now text) v × (length (now pattern) ≡ cellsOf v) × RowsRepeat (now pattern) (v .width) period × (length (now images) ≡ 256) × (base ≤ 16777216) ⌝ }
-    ensures { λ r. ⌜ (r ≡ true → Carried base (patternAt (now (pattern .entry))) (windowOf (now (text .entry)) v) (cellsOf v) (now (images .exit))) ⌝ }
+    requires { ⌜
+        Placed (now text) v × (length (now pattern) ≡ cellsOf v) × RowsRepeat (now pattern) (v .width) period
+        × (length (now images) ≡ 256) × (base ≤ 16777216) ⌝ }
+    ensures { λ r. ⌜
+        (r ≡ true → Carried base (patternAt (now (pattern .entry))) (windowOf (now (text .entry)) v) (cellsOf v)
+        (now (images .exit))) ⌝ }
     ensures { λ r. ⌜ length (now (images .exit)) ≡ 256 ⌝ }
 {
     let height = v.height;

@@ -5,7 +5,7 @@ ghost use lib.ListN.{length};
 ghost use Rattle.matching.specs.Compare.{patternAt, windowOf, cellsOf, Placed};
 ghost use Rattle.claims.specs.Claims.{alikeOnly, cellInside, trueMismatch};
 use listing::records::Place;
-use matching::compare::WindowPlace;
+use shapes::windows::WindowPlace;
 
 // A cell of the pattern.
 fn cell_inside(v: WindowPlace, cell: Place) -> bool
@@ -45,8 +45,12 @@ fn alike_only(
     q: Place,
     p: Place,
 ) -> bool
-    requires { ⌜ Placed (now text) v × (length (now pattern) ≡ cellsOf v) × (q .row < v .height) × (q .column < v .width) × (p .row < v .height) × (p .column < v .width) ⌝ }
-    ensures { λ r. ⌜ r ≡ alikeOnly «alike_in_pattern» (patternAt (now (pattern .entry))) (windowOf (now (text .entry)) v) (q .row * v .width + q .column) (p .row * v .width + p .column) ⌝ }
+    requires { ⌜
+        Placed (now text) v × (length (now pattern) ≡ cellsOf v) × (q .row < v .height) × (q .column < v .width)
+        × (p .row < v .height) × (p .column < v .width) ⌝ }
+    ensures { λ r. ⌜
+        r ≡ alikeOnly «alike_in_pattern» (patternAt (now (pattern .entry))) (windowOf (now (text .entry)) v)
+        (q .row * v .width + q .column) (p .row * v .width + p .column) ⌝ }
 {
     let a = pattern_symbol(pattern, v, q);
     let b = pattern_symbol(pattern, v, p);
@@ -69,7 +73,9 @@ pub fn true_mismatch(
     later: Place,
 ) -> bool
     requires { ⌜ Placed (now text) v × (length (now pattern) ≡ cellsOf v) ⌝ }
-    ensures { λ r. ⌜ r ≡ trueMismatch «alike_in_pattern» (patternAt (now (pattern .entry))) (windowOf (now (text .entry)) v) (v .height) (v .width) (earlier .row) (earlier .column) (later .row) (later .column) ⌝ }
+    ensures { λ r. ⌜
+        r ≡ trueMismatch «alike_in_pattern» (patternAt (now (pattern .entry))) (windowOf (now (text .entry)) v)
+        (v .height) (v .width) (earlier .row) (earlier .column) (later .row) (later .column) ⌝ }
 {
     if !cell_inside(v, earlier) {
         return false;

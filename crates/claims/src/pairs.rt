@@ -17,14 +17,15 @@ use crate::passages::Passage;
 use listing::reader::Cursor;
 use listing::reader::Read;
 use listing::records::Record;
-use matching::compare::WindowPlace;
 use matching::compare::symbol_at;
 use shapes::refusals::Refusal;
+use shapes::windows::WindowPlace;
 
 // Whether the window has b in every cell where the pattern has a: the long way, cell by cell.
 fn all_cells_have(text: &[u8], v: WindowPlace, pattern: &[u8], a: u8, b: u8) -> bool
     requires { ⌜ Placed (now text) v × (length (now pattern) ≡ cellsOf v) ⌝ }
-    ensures { λ r. ⌜ r ≡ hasImage (patternAt (now (pattern .entry))) (windowOf (now (text .entry)) v) (cellsOf v) a b ⌝ }
+    ensures { λ r. ⌜
+        r ≡ hasImage (patternAt (now (pattern .entry))) (windowOf (now (text .entry)) v) (cellsOf v) a b ⌝ }
 {
     let mut p = 0;
     while p < pattern.len() {
@@ -50,8 +51,10 @@ fn has_image(
     a: u8,
     b: u8,
 ) -> bool
-    requires { ⌜ FoundWindow (now text) v (now pattern) carried base (now images) × (contains (now pattern) a ≡ true) ⌝ }
-    ensures { λ r. ⌜ r ≡ hasImage (patternAt (now (pattern .entry))) (windowOf (now (text .entry)) v) (cellsOf v) a b ⌝ }
+    requires { ⌜
+        FoundWindow (now text) v (now pattern) carried base (now images) × (contains (now pattern) a ≡ true) ⌝ }
+    ensures { λ r. ⌜
+        r ≡ hasImage (patternAt (now (pattern .entry))) (windowOf (now (text .entry)) v) (cellsOf v) a b ⌝ }
 {
     if carried {
         return images[a as usize] == base + b as u32;
@@ -72,8 +75,13 @@ fn read_pair(
     listing: &[u8],
     at: usize,
 ) -> Passage
-    requires { ⌜ FoundWindow (now text) v (now pattern) carried base (now images) × (contains (now pattern) a ≡ true) × (length (now given) ≡ 256) ⌝ }
-    ensures { λ r. ⌜ ((before : List ℕ) → Marked base before (now (given .entry)) → PairRead (patternAt (now (pattern .entry))) (windowOf (now (text .entry)) v) (cellsOf v) (now (listing .entry)) a base at before r (now (given .exit))) ⌝ }
+    requires { ⌜
+        FoundWindow (now text) v (now pattern) carried base (now images) × (contains (now pattern) a ≡ true)
+        × (length (now given) ≡ 256) ⌝ }
+    ensures { λ r. ⌜
+        ((before : List ℕ) → Marked base before (now (given .entry))
+        → PairRead (patternAt (now (pattern .entry))) (windowOf (now (text .entry)) v) (cellsOf v)
+        (now (listing .entry)) a base at before r (now (given .exit))) ⌝ }
 {
     let cursor = Cursor { at };
     let Read::Whole(item, next) = cursor.read_pair_first(listing) else {
@@ -112,8 +120,12 @@ fn read_pairs(
     listing: &[u8],
     at: usize,
 ) -> Passage
-    requires { ⌜ FoundWindow (now text) v (now pattern) carried base (now images) × (now symbols ≡ symbolsOf (now pattern)) × Older base (now given) ⌝ }
-    ensures { λ r. ⌜ courseOf r ≡ pairsFrom (patternAt (now (pattern .entry))) (windowOf (now (text .entry)) v) (cellsOf v) (now (listing .entry)) (symbolsOf (now (pattern .entry))) [] at ⌝ }
+    requires { ⌜
+        FoundWindow (now text) v (now pattern) carried base (now images) × (now symbols ≡ symbolsOf (now pattern))
+        × Older base (now given) ⌝ }
+    ensures { λ r. ⌜
+        courseOf r ≡ pairsFrom (patternAt (now (pattern .entry))) (windowOf (now (text .entry)) v) (cellsOf v)
+        (now (listing .entry)) (symbolsOf (now (pattern .entry))) [] at ⌝ }
     ensures { λ r. ⌜ Older (base + 256) (now (given .exit)) ⌝ }
 {
     let mut end = at;
@@ -154,8 +166,13 @@ pub fn found_pairs(
     listing: &[u8],
     at: usize,
 ) -> Passage
-    requires { ⌜ Placed (now text) v × (length (now pattern) ≡ cellsOf v) × (now symbols ≡ symbolsOf (now pattern)) × (length (now images) ≡ 256) × Older base (now given) × (base ≤ 16777216) × RowsRepeat (now pattern) (v .width) period ⌝ }
-    ensures { λ r. ⌜ courseOf r ≡ pairsFrom (patternAt (now (pattern .entry))) (windowOf (now (text .entry)) v) (cellsOf v) (now (listing .entry)) (symbolsOf (now (pattern .entry))) [] at ⌝ }
+    requires { ⌜
+        Placed (now text) v × (length (now pattern) ≡ cellsOf v) × (now symbols ≡ symbolsOf (now pattern))
+        × (length (now images) ≡ 256) × Older base (now given) × (base ≤ 16777216)
+        × RowsRepeat (now pattern) (v .width) period ⌝ }
+    ensures { λ r. ⌜
+        courseOf r ≡ pairsFrom (patternAt (now (pattern .entry))) (windowOf (now (text .entry)) v) (cellsOf v)
+        (now (listing .entry)) (symbolsOf (now (pattern .entry))) [] at ⌝ }
     ensures { λ r. ⌜ Older (base + 256) (now (given .exit)) ⌝ }
     ensures { λ r. ⌜ length (now (images .exit)) ≡ 256 ⌝ }
 {

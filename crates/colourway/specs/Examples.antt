@@ -10,12 +10,14 @@ use Rattle.shapes.specs.Shapes.{Side}
 use Rattle.listing.specs.Entries.{bytesAll}
 use Rattle.listing.specs.declared.records.Record.{Record}
 use Rattle.listing.specs.declared.records.Record.the-variants.{Found, Pair, AlikeInPattern, Closing}
+use Rattle.shapes.specs.Said.{accepts}
+use Rattle.search.specs.Listing.{foundIn, refusedIn, neededLength}
 use Rattle.guarantee.specs.Drafts.{starred-drafts}
 use Rattle.printing.specs.Decimal.{decimal}
 use Rattle.printing.specs.Lines.{lineOf, linesOf}
 use Rattle.printing.specs.Lines.Unique.{records-injective}
-use Rattle.colourway.specs.Program.{textIn, patternIn, ownNumber, programNumber, recordsFor, outputOf, Right}
-use Rattle.colourway.specs.Program.Accepted.{input-passes, own-accepted}
+use Rattle.colourway.specs.Program.{textIn, patternIn, questionIn, programSaid, recordsFor, outputOf, Right}
+use Rattle.colourway.specs.Program.Accepted.{program-own, own-accepted}
 use Rattle.colourway.specs.Theorems.{output-listed, records-bytes}
 
 -- 2 3 2 2, sheet 7 7 3 / 3 7 7, motif 1 1 / 2 1
@@ -42,11 +44,9 @@ first-right =
       length-is = refl;
     }
 
-first-accepted : programNumber firstInput ≡ 0
-unfolding programNumber textIn patternIn
-first-accepted =
-    input-passes firstInput first-right (ownNumber firstInput)
-    ∙ own-accepted firstInput first-right (omega (arith, starred-drafts .two-windows .2))
+first-accepted : programSaid firstInput ≡ accepts (foundIn (questionIn firstInput) ∷ refusedIn (questionIn firstInput) ∷ neededLength (questionIn firstInput) ∷ [])
+unfolding textIn patternIn
+first-accepted = program-own firstInput first-right ∙ own-accepted firstInput first-right (omega (arith, starred-drafts .two-windows .2))
 
 -- its records
 firstRecords : List Record
@@ -64,4 +64,4 @@ pub first-printed : outputOf firstInput
     ≡ (49 ∷ 32 ∷ 48 ∷ 32 ∷ 48 ∷ 10 ∷ []) ++ (50 ∷ 32 ∷ 49 ∷ 32 ∷ 55 ∷ 10 ∷ []) ++ (50 ∷ 32 ∷ 50 ∷ 32 ∷ 51 ∷ 10 ∷ [])
     ++ (51 ∷ 32 ∷ 48 ∷ 32 ∷ 49 ∷ 32 ∷ 48 ∷ 32 ∷ 48 ∷ 32 ∷ 48 ∷ 32 ∷ 49 ∷ 10 ∷ []) ++ (53 ∷ 32 ∷ 48 ∷ 32 ∷ 49 ∷ 32 ∷ 48 ∷ 32 ∷ 49 ∷ 10 ∷ [])
 unfolding firstRecords linesOf lineOf decimal
-first-printed = output-listed firstInput first-accepted ∙ ap linesOf first-records
+first-printed = output-listed firstInput _ first-accepted ∙ ap linesOf first-records

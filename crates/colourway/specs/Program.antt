@@ -11,12 +11,15 @@ use mathlib.Core.List.{List}
 use Prim.Native.Nat.{ℕ, _+_, _*_, _≤_}
 use lib.Dec.{eqb, leb}
 use lib.ListN.{length, getD, take, drop}
-use Rattle.theory.specs.Test.{pick, both}
-use Rattle.shapes.specs.Refusals.{unless}
-use Rattle.shapes.specs.Shapes.{goodSides, goodCells, fits, Sized}
+use Rattle.theory.specs.Test.{both}
+use Rattle.shapes.specs.Shapes.{Sized}
+use Rattle.shapes.specs.declared.shapes.Shape.{Shape}
 use Rattle.listing.specs.declared.records.Record.{Record}
 use Rattle.search.specs.Listing.{searchRecords}
-use Rattle.search.specs.Search.{searchNumber}
+use Rattle.shapes.specs.Said.{Said, accepts, refuses, _then_, check}
+use Rattle.shapes.specs.Questions.{Question, ask, sidesOf, sidesSaid, cellsSaid, sizeSaid}
+use Rattle.flags.specs.Flags.{rooms}
+use Rattle.search.specs.Search.{searchSaid}
 use Rattle.printing.specs.Lines.{linesOf, refusalLine}
 
 -- ---- the input
@@ -45,42 +48,46 @@ textIn input = take (rowsIn input * columnsIn input) (drop 4 input)
 unfoldable pub patternIn : List ℕ → List ℕ
 patternIn input = drop (4 + rowsIn input * columnsIn input) input
 
--- ---- its number
+-- ---- what is said of it
 
 -- 8: text or pattern of more than 16,384 cells
 abbrev pub fewCells : ℕ → ℕ → Bool
 fewCells cells patternCells = both (leb cells 16384) (leb patternCells 16384)
 
--- 3: the cells given are R × C and r × c in number, and nothing stands after them
-abbrev pub rightCells : List ℕ → Bool
-rightCells input = both (goodCells (length (textIn input)) (rowsIn input) (columnsIn input)) (goodCells (length (patternIn input)) (heightIn input) (widthIn input))
+-- what the search is asked
+abbrev pub questionIn : List ℕ → Question
+questionIn input = ask (textIn input) (rowsIn input) (columnsIn input) (patternIn input) (heightIn input) (widthIn input)
 
--- the program's own refusals 1, 2, 8, 3, 4 in their order, and then what comes after
-unfoldable pub inputThen : List ℕ → ℕ → ℕ
-inputThen input after =
-    unless (leb 4 (length input)) 1
-    (unless (goodSides (rowsIn input) (columnsIn input) (heightIn input) (widthIn input)) 2
-    (unless (fewCells (rowsIn input * columnsIn input) (heightIn input * widthIn input)) 8
-    (unless (rightCells input) 3
-    (unless (fits (rowsIn input) (columnsIn input) (heightIn input) (widthIn input)) 4 after))))
+-- the program's own refusals: 1, 2, 8, 3, 4 in this order. That nothing stands after the pattern is 3 of the pattern, which is all that stands behind the text.
+unfoldable pub inputSaid : List ℕ → Said
+inputSaid input =
+    check (leb 4 (length input)) 1
+    then sidesSaid (sidesOf (questionIn input))
+    then check (fewCells (rowsIn input * columnsIn input) (heightIn input * widthIn input)) 8
+    then cellsSaid (questionIn input)
+    then sizeSaid (sidesOf (questionIn input))
 
 -- the search's own, with the program's buffers: 16,384 links, counts and flags, and 65,536 bytes of listing
-unfoldable pub ownNumber : List ℕ → ℕ
-ownNumber input = searchNumber (textIn input) (rowsIn input) (columnsIn input) (patternIn input) (heightIn input) (widthIn input) 16384 16384 16384 65536
+unfoldable pub ownSaid : List ℕ → Said
+ownSaid input = searchSaid (questionIn input) (rooms 16384 16384 16384) 65536
 
--- the number of an input: 'program 1, 2, 8, 3, 4, then the search's own', 0 where it is accepted
-unfoldable pub programNumber : List ℕ → ℕ
-programNumber input = inputThen input (ownNumber input)
+-- 'program 1, 2, 8, 3, 4, then the search's own'
+unfoldable pub programSaid : List ℕ → Said
+programSaid input = inputSaid input then ownSaid input
 
 -- ---- the output
 
 -- the records of the search
 unfoldable pub recordsFor : List ℕ → List Record
-recordsFor input = searchRecords (textIn input) (rowsIn input) (columnsIn input) (patternIn input) (heightIn input) (widthIn input)
+recordsFor input = searchRecords (questionIn input)
 
--- a record a line where the input is accepted, and else the refusal
+-- a record a line where it is accepted, and else the refusal
+abbrev pub outputBy : Said → List Record → List ℕ
+outputBy (accepts values) records = linesOf records
+outputBy (refuses number values) records = refusalLine number
+
 unfoldable pub outputOf : List ℕ → List ℕ
-outputOf input = pick (eqb (programNumber input) 0) (linesOf (recordsFor input)) (refusalLine (programNumber input))
+outputOf input = outputBy (programSaid input) (recordsFor input)
 
 -- What the inner functions' contracts cite.
 
@@ -91,12 +98,10 @@ pub record Right (input : List ℕ) : Type 0 where
   pub pattern-few : heightIn input * widthIn input ≤ 16384
   pub length-is : length input ≡ 4 + rowsIn input * columnsIn input + heightIn input * widthIn input
 
--- 8 and 3 of what the sides ask for and the number of bytes behind the sizes, and then what comes after
-unfoldable pub cellsThen : ℕ → ℕ → ℕ → ℕ → ℕ
-cellsThen cells patternCells given after = unless (fewCells cells patternCells) 8 (unless (eqb given (cells + patternCells)) 3 after)
+-- 8 and 3 of what the sides ask for and the number of bytes behind the sizes
+unfoldable pub countSaid : ℕ → ℕ → ℕ → Said
+countSaid cells patternCells given = check (fewCells cells patternCells) 8 then check (eqb given (cells + patternCells)) 3
 
 -- 2, 8, 3 and 4 of sides and the number of bytes behind the sizes
-unfoldable pub sizesNumber : ℕ → ℕ → ℕ → ℕ → ℕ → ℕ
-sizesNumber rows columns height width given =
-    unless (goodSides rows columns height width) 2
-    (cellsThen (rows * columns) (height * width) given (unless (fits rows columns height width) 4 0))
+unfoldable pub sizesSaid : Shape → ℕ → Said
+sizesSaid s given = sidesSaid s then countSaid (s .rows * s .columns) (s .height * s .width) given then sizeSaid s

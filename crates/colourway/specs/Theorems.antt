@@ -9,108 +9,112 @@ use mathlib.Core.Bool.{Bool, true, false}
 use mathlib.Core.List.{List, [], _∷_}
 use mathlib.Core.Logic.{_⊎_, inl, inr}
 use Prim.Native.Nat.{ℕ, _+_, _*_, _≤_, _<_}
-use native.Mathlib.Decide.{ℕ-discrete}
 use native.Mathlib.Omega.{arith}
 use lib.Dec.{leb}
 use lib.ListN.{length, getD, take}
 use lib.Seq.{length-take-le, take-all, getD-take, getD-drop}
-use borrow.Author.Tests.{le-leb, ne-eqb}
-use Rattle.theory.specs.Test.{Tested, holds, fails, le-tested, is-false}
+use borrow.Author.Tests.{le-leb}
+use Rattle.theory.specs.Test.{Tested, holds, fails, le-tested}
 use Rattle.theory.specs.Count.{Entry}
-use Rattle.shapes.specs.Refusals.{unless}
+use Rattle.shapes.specs.Said.{Said, accepts, refuses, _then_, check, saidNumber}
+use Rattle.shapes.specs.Questions.{gridGood, sidesOf, sidesSaid, gridSaid, cellsSaid, sizeSaid}
+use Rattle.shapes.specs.declared.shapes.Shape.{Shape}
+use Rattle.listing.specs.declared.records.Record.{Record}
 use Rattle.shapes.specs.Shapes.{goodSides, fits}
 use Rattle.listing.specs.Entries.{bytesAll}
 use Rattle.search.specs.Listing.{searchListing, neededLength}
 use Rattle.search.specs.Listing.Length.{length-listing}
 use Rattle.printing.specs.Lines.{linesOf, refusalLine}
 use Rattle.printing.specs.Lines.Writing.{lines-length, refusal-length}
-use Rattle.colourway.specs.Program.{rowsIn, columnsIn, heightIn, widthIn, textIn, patternIn, fewCells, rightCells, inputThen, ownNumber, programNumber, recordsFor, outputOf, Right}
-use Rattle.colourway.specs.Program.Accepted.{few-tested, cells-tested, input-passed, input-passes, input-refused, needed, own-accepted, own-short, program-passed}
+use Rattle.colourway.specs.Program.{questionIn, rowsIn, columnsIn, heightIn, widthIn, patternIn, fewCells, inputSaid, ownSaid, programSaid, recordsFor, outputBy, outputOf, Right}
+use Rattle.colourway.specs.Program.Accepted.{few-tested, cells-wrong, input-passed, needed, own-accepted, own-short, program-passed}
 
 -- ---- which numbers there are
 
 -- where the program itself refuses nothing, the search has only 11 to give
-pub own-numbers : (input : List ℕ) → Right input → (ownNumber input ≡ 0) ⊎ (ownNumber input ≡ 11)
+pub own-numbers : (input : List ℕ) → Right input → (saidNumber (ownSaid input) ≡ 0) ⊎ (saidNumber (ownSaid input) ≡ 11)
 own-numbers input r = go (le-tested (needed input r) 65536)
   where
-    go : {b : Bool} → Tested (needed input r ≤ 65536) b → (ownNumber input ≡ 0) ⊎ (ownNumber input ≡ 11)
-    go (holds h) = inl (own-accepted input r h)
-    go (fails h) = inr (own-short input r (omega arith))
+    go : {b : Bool} → Tested (needed input r ≤ 65536) b → (saidNumber (ownSaid input) ≡ 0) ⊎ (saidNumber (ownSaid input) ≡ 11)
+    go (holds h) = inl (ap saidNumber (own-accepted input r h))
+    go (fails h) = inr (ap saidNumber (own-short input r (omega arith)))
 
 -- the numbers that document 01's order names, and no other
 abbrev pub programNumbers : List ℕ
 programNumbers = 0 ∷ 1 ∷ 2 ∷ 8 ∷ 3 ∷ 4 ∷ 11 ∷ []
 
-input-numbers : (a b c d e : Bool) → Entry programNumbers (unless a 1 (unless b 2 (unless c 8 (unless d 3 (unless e 4 0)))))
-input-numbers true true true true true = (0, omega arith, refl)
-input-numbers true true true true false = (5, omega arith, refl)
-input-numbers true true true false e = (4, omega arith, refl)
-input-numbers true true false d e = (3, omega arith, refl)
-input-numbers true false c d e = (2, omega arith, refl)
-input-numbers false b c d e = (1, omega arith, refl)
+input-numbers : (a b c d d′ e : Bool) → Entry programNumbers (saidNumber (check a 1 then check b 2 then check c 8 then (check d 3 then check d′ 3) then check e 4))
+input-numbers true true true true true true = (0, omega arith, refl)
+input-numbers true true true true true false = (5, omega arith, refl)
+input-numbers true true true true false e = (4, omega arith, refl)
+input-numbers true true true false d e = (4, omega arith, refl)
+input-numbers true true false d d′ e = (3, omega arith, refl)
+input-numbers true false c d d′ e = (2, omega arith, refl)
+input-numbers false b c d d′ e = (1, omega arith, refl)
 
-before-search : (input : List ℕ) → Entry programNumbers (inputThen input 0)
-unfolding inputThen
+before-search : (input : List ℕ) → Entry programNumbers (saidNumber (inputSaid input))
+unfolding inputSaid sidesSaid cellsSaid gridSaid sizeSaid
 before-search input =
     input-numbers (leb 4 (length input)) (goodSides (rowsIn input) (columnsIn input) (heightIn input) (widthIn input))
-    (fewCells (rowsIn input * columnsIn input) (heightIn input * widthIn input)) (rightCells input)
+    (fewCells (rowsIn input * columnsIn input) (heightIn input * widthIn input)) (gridGood (questionIn input .text)) (gridGood (questionIn input .pattern))
     (fits (rowsIn input) (columnsIn input) (heightIn input) (widthIn input))
 
-pub numbers : (input : List ℕ) → Entry programNumbers (programNumber input)
-unfolding programNumber
-numbers input = go (ℕ-discrete (inputThen input 0) 0)
+pub numbers : (input : List ℕ) → Entry programNumbers (saidNumber (programSaid input))
+unfolding programSaid
+numbers input = go (inputSaid input) refl
   where
-    own : (ownNumber input ≡ 0) ⊎ (ownNumber input ≡ 11) → Entry programNumbers (ownNumber input)
+    own : (saidNumber (ownSaid input) ≡ 0) ⊎ (saidNumber (ownSaid input) ≡ 11) → Entry programNumbers (saidNumber (ownSaid input))
     own (inl e) = (0, omega arith, sym e)
     own (inr e) = (6, omega arith, sym e)
 
-    go : Dec (inputThen input 0 ≡ 0) → Entry programNumbers (inputThen input (ownNumber input))
-    go (yes z) =
-        let r = input-passed input 0 z .0 in
-        subst (Entry programNumbers) (sym (input-passes input r (ownNumber input))) (own (own-numbers input r))
-    go (no d) = subst (Entry programNumbers) (sym (input-refused input (omega arith) (ownNumber input))) (before-search input)
+    go : (a : Said) → inputSaid input ≡ a → Entry programNumbers (saidNumber (a then ownSaid input))
+    go (accepts values) d = own (own-numbers input (input-passed input values d))
+    go (refuses number values) d = subst (λ (a : Said). Entry programNumbers (saidNumber a)) d (before-search input)
+
+-- ---- the output
+
+-- a refused input prints its number
+pub output-refused : (input : List ℕ) (number : ℕ) (values : List ℕ) → programSaid input ≡ refuses number values → outputOf input ≡ refusalLine number
+unfolding outputOf
+output-refused input number values e = rw e
+
+-- an accepted one a record a line
+pub output-listed : (input : List ℕ) (values : List ℕ) → programSaid input ≡ accepts values → outputOf input ≡ linesOf (recordsFor input)
+unfolding outputOf
+output-listed input values e = rw e
 
 -- ---- how much is read
 
 -- an input longer than any that can be right: its sizes decide
-abbrev longNumber : ℕ → ℕ → ℕ → ℕ → ℕ
-longNumber rows columns height width = unless (goodSides rows columns height width) 2 (unless (fewCells (rows * columns) (height * width)) 8 3)
+abbrev longSaid : Shape → Said
+longSaid s = sidesSaid s then check (fewCells (s .rows * s .columns) (s .height * s .width)) 8 then refuses 3 []
 
-long-positive : (a b : Bool) → 0 < unless a 2 (unless b 8 3)
-long-positive true true = omega arith
-long-positive true false = omega arith
-long-positive false b = omega arith
-
-long-number : (input : List ℕ) → 32773 ≤ length input → programNumber input ≡ longNumber (rowsIn input) (columnsIn input) (heightIn input) (widthIn input)
-unfolding programNumber inputThen
-long-number input h = rw (le-leb 4 (length input) long) (ap (unless (goodSides (rowsIn input) (columnsIn input) (heightIn input) (widthIn input)) 2) (go (few-tested input)))
+long-said : (input : List ℕ) → 32773 ≤ length input → programSaid input ≡ longSaid (sidesOf (questionIn input))
+unfolding programSaid inputSaid
+long-said input h = rw (le-leb 4 (length input) long) (go (sidesSaid (sidesOf (questionIn input))) (few-tested input))
   where
     long : 4 ≤ length input
     long = omega arith
 
-    go : {b : Bool} → Tested ((rowsIn input * columnsIn input ≤ 16384) × (heightIn input * widthIn input ≤ 16384)) b
-        → unless b 8 (unless (rightCells input) 3 (unless (fits (rowsIn input) (columnsIn input) (heightIn input) (widthIn input)) 4 (ownNumber input))) ≡ unless b 8 3
-    go (holds k) =
+    go : (a : Said) {b : Bool} → Tested ((rowsIn input * columnsIn input ≤ 16384) × (heightIn input * widthIn input ≤ 16384)) b
+        → (a then check b 8 then cellsSaid (questionIn input) then sizeSaid (sidesOf (questionIn input))) then ownSaid input ≡ a then check b 8 then refuses 3 []
+    go (accepts values) (holds k) =
         let over : length input ≡ 4 + rowsIn input * columnsIn input + heightIn input * widthIn input → ⊥ = λ e. omega (arith, k .0, k .1, e) in
-        rw (is-false (cells-tested input long) over)
-    go (fails n) = refl
+        rw (cells-wrong input long over)
+    go (accepts values) (fails n) = refl
+    go (refuses number values) t = refl
 
--- a refused input prints its number
-pub output-refused : (input : List ℕ) (n : ℕ) → programNumber input ≡ n → 0 < n → outputOf input ≡ refusalLine n
+-- its output by its sizes alone
+long-refused : (a : Said) (b : Bool) (records : List Record) → outputBy (a then check b 8 then refuses 3 []) records ≡ outputBy (a then check b 8 then refuses 3 []) []
+long-refused (accepts values) true records = refl
+long-refused (accepts values) false records = refl
+long-refused (refuses number values) b records = refl
+
+long-output : (input : List ℕ) → 32773 ≤ length input → outputOf input ≡ outputBy (longSaid (sidesOf (questionIn input))) []
 unfolding outputOf
-output-refused input n e h =
-    let some : n ≡ 0 → ⊥ = λ z. omega arith in
-    rw (e, ne-eqb n 0 some)
-
--- an accepted one a record a line
-pub output-listed : (input : List ℕ) → programNumber input ≡ 0 → outputOf input ≡ linesOf (recordsFor input)
-unfolding outputOf
-output-listed input e = rw e
-
-long-output : (input : List ℕ) → 32773 ≤ length input → outputOf input ≡ refusalLine (longNumber (rowsIn input) (columnsIn input) (heightIn input) (widthIn input))
 long-output input h =
-    output-refused input _ (long-number input h)
-    (long-positive (goodSides (rowsIn input) (columnsIn input) (heightIn input) (widthIn input)) (fewCells (rowsIn input * columnsIn input) (heightIn input * widthIn input)))
+    ap (λ (a : Said). outputBy a (recordsFor input)) (long-said input h)
+    ∙ long-refused (sidesSaid (sidesOf (questionIn input))) (fewCells (rowsIn input * columnsIn input) (heightIn input * widthIn input)) (recordsFor input)
 
 -- what stands behind n bytes does not change what is printed, where n is no less than 32,773
 read-enough : (n : ℕ) → 32773 ≤ n → (input : List ℕ) → outputOf (take n input) ≡ outputOf input
@@ -139,17 +143,17 @@ unfolding patternIn
 pattern-bytes input bytes k = rw (getD-drop (4 + rowsIn input * columnsIn input) input k 0) (bytes (4 + rowsIn input * columnsIn input + k))
 
 -- the bytes of the records are the search's listing, as long as document 01 says
-pub records-bytes : (input : List ℕ) → searchListing (textIn input) (rowsIn input) (columnsIn input) (patternIn input) (heightIn input) (widthIn input) ≡ bytesAll (recordsFor input)
+pub records-bytes : (input : List ℕ) → searchListing (questionIn input) ≡ bytesAll (recordsFor input)
 unfolding searchListing recordsFor
 records-bytes input = refl
 
 -- four bytes of output for each of 65,536 bytes of listing
 pub output-length : (input : List ℕ) → ((k : ℕ) → getD input k 0 < 256) → length (outputOf input) ≤ 262144
-output-length input bytes = go (ℕ-discrete (programNumber input) 0)
+output-length input bytes = go (programSaid input) refl
   where
-    go : Dec (programNumber input ≡ 0) → length (outputOf input) ≤ 262144
-    go (yes z) =
-        let fits : neededLength (textIn input) (rowsIn input) (columnsIn input) (patternIn input) (heightIn input) (widthIn input) ≤ 65536 = program-passed input z .1 in
-        let long = length-listing (textIn input) (rowsIn input) (columnsIn input) (patternIn input) (heightIn input) (widthIn input) (pattern-bytes input bytes) in
-        omega (arith, fits, long, ap length (records-bytes input), lines-length (recordsFor input), ap length (output-listed input z))
-    go (no d) = omega (arith, refusal-length (programNumber input), ap length (output-refused input (programNumber input) refl (omega arith)))
+    go : (a : Said) → programSaid input ≡ a → length (outputOf input) ≤ 262144
+    go (accepts values) z =
+        let fits : neededLength (questionIn input) ≤ 65536 = program-passed input values z .1 in
+        let long = length-listing (questionIn input) (pattern-bytes input bytes) in
+        omega (arith, fits, long, ap length (records-bytes input), lines-length (recordsFor input), ap length (output-listed input values z))
+    go (refuses number values) z = omega (arith, refusal-length number, ap length (output-refused input number values z))

@@ -1,7 +1,8 @@
 // Bijections for Rust and C: a bijection passes as its two columns, in which 256 stands for no image and no preimage. An operation takes the columns
 // and leaves its answer's there; refused, it leaves them as they were.
 ghost use mathlib.Core.Path.{_≡_};
-ghost use Rattle.mapping.specs.Bijections.{emptyBijection, pairNumber, invertNumber, composeNumber, pairAfter, invertAfter, composeAfter};
+ghost use Rattle.mapping.specs.Bijections.{emptyBijection, pairOf, invertOf, composeOf};
+ghost use Rattle.shapes.specs.Said.{saidNumber};
 ghost use Rattle.values.specs.Bijections.{bijectionIn};
 use values::bijections::bijection_in;
 use values::bijections::write_answer;
@@ -23,8 +24,10 @@ pub extern "C" fn colourway_bijection_pair(
     a: u8,
     c: u8,
 ) -> u8
-    ensures { λ r. ⌜ r ≡ pairNumber (bijectionIn (now (forward .entry)) (now (backward .entry))) a c ⌝ }
-    ensures { λ r. ⌜ bijectionIn (now (forward .exit)) (now (backward .exit)) ≡ pairAfter (bijectionIn (now (forward .entry)) (now (backward .entry))) a c ⌝ }
+    ensures { λ r. ⌜ r ≡ saidNumber (pairOf (bijectionIn (now (forward .entry)) (now (backward .entry))) a c .said) ⌝ }
+    ensures { λ r. ⌜
+        bijectionIn (now (forward .exit)) (now (backward .exit))
+        ≡ pairOf (bijectionIn (now (forward .entry)) (now (backward .entry))) a c .bijection ⌝ }
 {
     let answer = mapping::bijections::pair(bijection_in(forward, backward), a, c);
     write_answer(answer, forward, backward)
@@ -36,8 +39,10 @@ pub extern "C" fn colourway_bijection_invert(
     forward: &mut [u16; 256],
     backward: &mut [u16; 256],
 ) -> u8
-    ensures { λ r. ⌜ r ≡ invertNumber (bijectionIn (now (forward .entry)) (now (backward .entry))) ⌝ }
-    ensures { λ r. ⌜ bijectionIn (now (forward .exit)) (now (backward .exit)) ≡ invertAfter (bijectionIn (now (forward .entry)) (now (backward .entry))) ⌝ }
+    ensures { λ r. ⌜ r ≡ saidNumber (invertOf (bijectionIn (now (forward .entry)) (now (backward .entry))) .said) ⌝ }
+    ensures { λ r. ⌜
+        bijectionIn (now (forward .exit)) (now (backward .exit))
+        ≡ invertOf (bijectionIn (now (forward .entry)) (now (backward .entry))) .bijection ⌝ }
 {
     let answer = mapping::bijections::invert(bijection_in(forward, backward));
     write_answer(answer, forward, backward)
@@ -51,8 +56,13 @@ pub extern "C" fn colourway_bijection_compose(
     other_forward: &[u16; 256],
     other_backward: &[u16; 256],
 ) -> u8
-    ensures { λ r. ⌜ r ≡ composeNumber (bijectionIn (now (forward .entry)) (now (backward .entry))) (bijectionIn (now («other_forward» .entry)) (now («other_backward» .entry))) ⌝ }
-    ensures { λ r. ⌜ bijectionIn (now (forward .exit)) (now (backward .exit)) ≡ composeAfter (bijectionIn (now (forward .entry)) (now (backward .entry))) (bijectionIn (now («other_forward» .entry)) (now («other_backward» .entry))) ⌝ }
+    ensures { λ r. ⌜
+        r ≡ saidNumber (composeOf (bijectionIn (now (forward .entry)) (now (backward .entry)))
+        (bijectionIn (now («other_forward» .entry)) (now («other_backward» .entry))) .said) ⌝ }
+    ensures { λ r. ⌜
+        bijectionIn (now (forward .exit)) (now (backward .exit))
+        ≡ composeOf (bijectionIn (now (forward .entry)) (now (backward .entry)))
+        (bijectionIn (now («other_forward» .entry)) (now («other_backward» .entry))) .bijection ⌝ }
 {
     let other = bijection_in(other_forward, other_backward);
     let answer = mapping::bijections::compose(bijection_in(forward, backward), other);

@@ -1,7 +1,9 @@
 // The check of a listing for Rust and C.
 ghost use mathlib.Core.Path.{_≡_};
-ghost use Rattle.verify.specs.Check.{checkNumber};
-ghost use Rattle.values.specs.Checking.{checkTotals};
+ghost use Rattle.shapes.specs.Said.{saidNumber};
+ghost use Rattle.shapes.specs.Questions.{ask};
+ghost use Rattle.verify.specs.Check.{checkOf};
+ghost use Rattle.values.specs.Checking.{countsBy};
 use values::checking::checked_number;
 use values::checking::checked_totals;
 use verify::check::check;
@@ -19,8 +21,13 @@ pub extern "C" fn colourway_check(
     listing: &[u8],
     totals: &mut [usize; 2],
 ) -> u8
-    ensures { λ r. ⌜ r ≡ checkNumber (now (text .entry)) rows columns (now (pattern .entry)) height width (now (listing .entry)) ⌝ }
-    ensures { λ r. ⌜ now (totals .exit) ≡ checkTotals (now (text .entry)) rows columns (now (pattern .entry)) height width (now (listing .entry)) (now (totals .entry)) ⌝ }
+    ensures { λ r. ⌜
+        r ≡ saidNumber
+        (checkOf (ask (now (text .entry)) rows columns (now (pattern .entry)) height width) (now (listing .entry))) ⌝ }
+    ensures { λ r. ⌜
+        now (totals .exit)
+        ≡ countsBy (checkOf (ask (now (text .entry)) rows columns (now (pattern .entry)) height width) (now (listing .entry)))
+        (now (totals .entry)) ⌝ }
 {
     let answer = check(text, rows, columns, pattern, height, width, listing);
     let number = checked_number(answer);

@@ -1,7 +1,8 @@
 // The one-window question for Rust and C.
 ghost use mathlib.Core.Path.{_≡_};
-ghost use lib.ListN.{length};
-ghost use Rattle.matching.specs.Compare.{windowNumber};
+ghost use Rattle.shapes.specs.Said.{saidNumber};
+ghost use Rattle.shapes.specs.Questions.{ask};
+ghost use Rattle.matching.specs.Compare.{windowSaid};
 ghost use Rattle.values.specs.Bijections.{bijectionIn};
 ghost use Rattle.values.specs.Compare.{windowMismatch, windowBijection};
 use matching::compare::one_window;
@@ -25,9 +26,17 @@ pub extern "C" fn colourway_one_window(
     backward: &mut [u16; 256],
     mismatch: &mut [usize; 3],
 ) -> u8
-    ensures { λ r. ⌜ r ≡ windowNumber (length (now (text .entry))) rows columns (length (now (pattern .entry))) height width row column ⌝ }
-    ensures { λ r. ⌜ bijectionIn (now (forward .exit)) (now (backward .exit)) ≡ windowBijection (now (text .entry)) rows columns (now (pattern .entry)) height width row column (bijectionIn (now (forward .entry)) (now (backward .entry))) ⌝ }
-    ensures { λ r. ⌜ now (mismatch .exit) ≡ windowMismatch (now (text .entry)) rows columns (now (pattern .entry)) height width row column (now (mismatch .entry)) ⌝ }
+    ensures { λ r. ⌜
+        r ≡ saidNumber (windowSaid (ask (now (text .entry)) rows columns (now (pattern .entry)) height width) row
+        column) ⌝ }
+    ensures { λ r. ⌜
+        bijectionIn (now (forward .exit)) (now (backward .exit))
+        ≡ windowBijection (ask (now (text .entry)) rows columns (now (pattern .entry)) height width) row column
+        (bijectionIn (now (forward .entry)) (now (backward .entry))) ⌝ }
+    ensures { λ r. ⌜
+        now (mismatch .exit)
+        ≡ windowMismatch (ask (now (text .entry)) rows columns (now (pattern .entry)) height width) row column
+        (now (mismatch .entry)) ⌝ }
 {
     let answer = one_window(text, rows, columns, pattern, height, width, row, column);
     let b = answer.bijection;

@@ -1,6 +1,7 @@
 // The reader of a listing for Rust and C.
 ghost use mathlib.Core.Path.{_≡_};
-ghost use Rattle.listing.specs.Reader.{cursorNumber};
+ghost use Rattle.shapes.specs.Said.{saidNumber};
+ghost use Rattle.listing.specs.Reader.{cursorSaid};
 ghost use Rattle.values.specs.Reader.{HandsOver};
 use listing::reader::Cursor;
 use listing::reader::Read;
@@ -16,8 +17,9 @@ pub extern "C" fn colourway_read(
     fields: &mut [u16; 7],
     next: &mut [usize; 1],
 ) -> u8
-    ensures { λ r. ⌜ r ≡ cursorNumber (now (listing .entry)) at ⌝ }
-    ensures { λ r. ⌜ HandsOver (now (listing .entry)) at (now (fields .entry)) (now (fields .exit)) (now (next .exit)) ⌝ }
+    ensures { λ r. ⌜ r ≡ saidNumber (cursorSaid (now (listing .entry)) at) ⌝ }
+    ensures { λ r. ⌜
+        HandsOver (now (listing .entry)) at (now (fields .entry)) (now (fields .exit)) (now (next .exit)) ⌝ }
 {
     let cursor = Cursor { at };
     let answer = cursor.read(listing);

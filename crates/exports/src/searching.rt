@@ -1,8 +1,9 @@
 // The search for Rust and C.
 ghost use mathlib.Core.Path.{_≡_};
-ghost use lib.ListN.{length};
-ghost use Rattle.search.specs.Search.{searchNumber, linksAfterSearch, countsAfterSearch, flagsAfterSearch, listingAfterSearch};
-ghost use Rattle.values.specs.Searching.{searchTotals};
+ghost use Rattle.shapes.specs.Said.{saidNumber};
+ghost use Rattle.shapes.specs.Questions.{ask};
+ghost use Rattle.search.specs.Search.{lend, searchOf};
+ghost use Rattle.values.specs.Searching.{totalsBy};
 use search::search::search;
 use values::searching::searched_number;
 use values::searching::totals_in;
@@ -23,12 +24,18 @@ pub extern "C" fn colourway_search(
     listing: &mut [u8],
     totals: &mut [usize; 3],
 ) -> u8
-    ensures { λ r. ⌜ r ≡ searchNumber (now (text .entry)) rows columns (now (pattern .entry)) height width (length (now (links .entry))) (length (now (counts .entry))) (length (now (flags .entry))) (length (now (listing .entry))) ⌝ }
-    ensures { λ r. ⌜ now (totals .exit) ≡ searchTotals r (now (text .entry)) rows columns (now (pattern .entry)) height width (now (totals .entry)) ⌝ }
-    ensures { λ r. ⌜ now (links .exit) ≡ linksAfterSearch (now (text .entry)) rows columns (now (pattern .entry)) height width (now (links .entry)) (length (now (counts .entry))) (length (now (flags .entry))) ⌝ }
-    ensures { λ r. ⌜ now (counts .exit) ≡ countsAfterSearch (now (text .entry)) rows columns (now (pattern .entry)) height width (length (now (links .entry))) (now (counts .entry)) (length (now (flags .entry))) ⌝ }
-    ensures { λ r. ⌜ now (flags .exit) ≡ flagsAfterSearch (now (text .entry)) rows columns (now (pattern .entry)) height width (length (now (links .entry))) (length (now (counts .entry))) (now (flags .entry)) ⌝ }
-    ensures { λ r. ⌜ now (listing .exit) ≡ listingAfterSearch (now (text .entry)) rows columns (now (pattern .entry)) height width (length (now (links .entry))) (length (now (counts .entry))) (length (now (flags .entry))) (now (listing .entry)) ⌝ }
+    ensures { λ r. ⌜
+        r ≡ saidNumber (searchOf (ask (now (text .entry)) rows columns (now (pattern .entry)) height width)
+        (lend (now (links .entry)) (now (counts .entry)) (now (flags .entry)) (now (listing .entry))) .said) ⌝ }
+    ensures { λ r. ⌜
+        now (totals .exit) ≡ totalsBy
+        (searchOf (ask (now (text .entry)) rows columns (now (pattern .entry)) height width)
+        (lend (now (links .entry)) (now (counts .entry)) (now (flags .entry)) (now (listing .entry))) .said)
+        (now (totals .entry)) ⌝ }
+    ensures { λ r. ⌜
+        lend (now (links .exit)) (now (counts .exit)) (now (flags .exit)) (now (listing .exit))
+        ≡ searchOf (ask (now (text .entry)) rows columns (now (pattern .entry)) height width)
+        (lend (now (links .entry)) (now (counts .entry)) (now (flags .entry)) (now (listing .entry))) .lent ⌝ }
 {
     let answer = search(
         text,

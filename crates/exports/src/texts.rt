@@ -1,8 +1,10 @@
 // Texts and their windows for Rust and C.
 ghost use mathlib.Core.Path.{_≡_};
 ghost use lib.ListN.{length};
-ghost use Rattle.grid.specs.Strips.{linksNumber, linksAfter};
-ghost use Rattle.grid.specs.Counts.{countsNumber, countsAfter};
+ghost use Rattle.shapes.specs.Said.{saidNumber};
+ghost use Rattle.shapes.specs.Questions.{fourSides};
+ghost use Rattle.grid.specs.Strips.{linksSaid, linksAfter};
+ghost use Rattle.grid.specs.Counts.{countsSaid, countsAfter};
 ghost use Rattle.shapes.specs.Windows.{cellOf, cellNumber};
 use shapes::refusals::outcome_number;
 use shapes::windows::Cell;
@@ -17,7 +19,8 @@ pub extern "C" fn colourway_strip_links(
     left: usize,
     links: &mut [u16],
 ) -> u8
-    ensures { λ r. ⌜ r ≡ linksNumber (length (now (text .entry))) rows columns width left (length (now (links .entry))) ⌝ }
+    ensures { λ r. ⌜
+        r ≡ saidNumber (linksSaid (now (text .entry)) rows columns width left (length (now (links .entry)))) ⌝ }
     ensures { λ r. ⌜ now (links .exit) ≡ linksAfter (now (text .entry)) rows columns width left (now (links .entry)) ⌝ }
 {
     outcome_number(grid::strips::strip_links(text, rows, columns, width, left, links))
@@ -33,8 +36,12 @@ pub extern "C" fn colourway_distinct_counts(
     width: usize,
     counts: &mut [u16],
 ) -> u8
-    ensures { λ r. ⌜ r ≡ countsNumber (length (now (text .entry))) rows columns height width (length (now (counts .entry))) ⌝ }
-    ensures { λ r. ⌜ now (counts .exit) ≡ countsAfter (now (text .entry)) rows columns height width (now (counts .entry)) ⌝ }
+    ensures { λ r. ⌜
+        r ≡ saidNumber
+        (countsSaid (now (text .entry)) (fourSides rows columns height width) (length (now (counts .entry)))) ⌝ }
+    ensures { λ r. ⌜
+        now (counts .exit)
+        ≡ countsAfter (now (text .entry)) (fourSides rows columns height width) (now (counts .entry)) ⌝ }
 {
     outcome_number(grid::counts::distinct_counts(text, rows, columns, height, width, counts))
 }

@@ -20,25 +20,54 @@ use Rattle.theory.specs.First.{every, every-tested}
 use Rattle.theory.specs.Table.{table}
 use Rattle.theory.specs.Match.{Matches, Answer, matched, mismatched, isMatch, answerOf}
 use Rattle.theory.specs.Match.Answers.{match-iff}
-use Rattle.shapes.specs.Shapes.{corners, product-le}
-use Rattle.shapes.specs.Windows.{windowAt, cornerRow, cornerColumn, corner-row, corner-column}
+use Rattle.shapes.specs.Said.{overFront}
+use Rattle.shapes.specs.Questions.{Question, acrossOf, windowsOf, stripOf, sidesOf}
+use Rattle.grid.specs.Counts.{windowCount}
+use Rattle.shapes.specs.Shapes.{product-le}
+use Rattle.shapes.specs.Windows.{windowAt, cornerRow, corner-row, corner-column}
 use Rattle.grid.specs.Distinct.{distinct}
 use Rattle.grid.specs.Strips.{link}
 use Rattle.grid.specs.Strips.Links.{link-back}
-use Rattle.grid.specs.Counts.{ShapeOf, across, down}
-use Rattle.grid.specs.declared.counts.Shape.{Shape}
+use Rattle.shapes.specs.Shapes.{ShapeOf, across, down}
+use Rattle.shapes.specs.declared.shapes.Shape.{Shape}
 use Rattle.matching.specs.Compare.{patternAt}
+use Rattle.matching.specs.Questions.{answerAt}
 use Rattle.flags.specs.Observations.{flag-match}
 
--- the answer of the one-window question for window k
-abbrev pub answerAt : List ℕ → ℕ → List ℕ → ℕ → ℕ → ℕ → Answer
-answerAt text columns pattern height width k =
-    answerOf (patternAt pattern)
-    (windowAt text columns (cornerRow (corners columns width) k) (cornerColumn (corners columns width) k) width) (height * width)
-
 -- the flag of window k
-unfoldable pub windowFlag : List ℕ → ℕ → List ℕ → ℕ → ℕ → ℕ → ℕ
-windowFlag text columns pattern height width k = pick (isMatch (answerAt text columns pattern height width k)) 1 0
+unfoldable pub windowFlag : Question → ℕ → ℕ
+windowFlag q k = pick (isMatch (answerAt q k)) 1 0
+
+-- the count of window k
+abbrev pub countAt : Question → ℕ → ℕ
+countAt q = windowCount (q .text .cells) (q .text .columns) (q .pattern .rows) (q .pattern .columns)
+
+-- the buffers that the flagging is lent
+pub record Work : Type 0 where
+  pub links : List ℕ
+  pub counts : List ℕ
+  pub flags : List ℕ
+
+abbrev pub working : List ℕ → List ℕ → List ℕ → Work
+working links counts flags = record { links = links; counts = counts; flags = flags }
+
+-- how long they are
+pub record Rooms : Type 0 where
+  pub links : ℕ
+  pub counts : ℕ
+  pub flags : ℕ
+
+abbrev pub rooms : ℕ → ℕ → ℕ → Rooms
+rooms links counts flags = record { links = links; counts = counts; flags = flags }
+
+abbrev pub roomsOf : Work → Rooms
+roomsOf w = rooms (length (w .links)) (length (w .counts)) (length (w .flags))
+
+-- what it leaves in them: the links that were used 0, the count and the flag of every window, and behind them what was there
+unfoldable pub marked : Question → Work → Work
+marked q w =
+    working (overFront (table (λ p. 0) (stripOf q)) (w .links)) (overFront (table (countAt q) (windowsOf q)) (w .counts))
+    (overFront (table (windowFlag q) (windowsOf q)) (w .flags))
 
 -- What the inner functions' contracts cite.
 
@@ -66,6 +95,10 @@ pub record Room (cells patternCells : ℕ) (s : Shape) (links counts flags : ℕ
   pub links-room : s .rows * s .width ≤ links
   pub counts-room : down s * across s ≤ counts
   pub flags-room : down s * across s ≤ flags
+
+-- the same of a question
+abbrev pub RoomFor : Question → Rooms → Type 0
+RoomFor q r = Room (length (q .text .cells)) (length (q .pattern .cells)) (sidesOf q) (r .links) (r .counts) (r .flags)
 
 -- a pattern is small
 pub pattern-small : (cells patternCells : ℕ) (s : Shape) (links counts flags : ℕ) → Room cells patternCells s links counts flags → patternCells ≤ 65025
@@ -189,13 +222,13 @@ flag-right m w s base n symbols count l is a b links = ap (λ (t : Bool). pick t
     known = tested-iff there back (both-tested (eq-tested count symbols) (links-agree-tested m l n))
 
 -- a flag is 1 exactly if the pattern matches
-pub flag-one : (text : List ℕ) (columns : ℕ) (pattern : List ℕ) (height width row column : ℕ) → column < corners columns width
-    → (windowFlag text columns pattern height width (row * corners columns width + column) ≡ 1)
-    ↔ Matches (patternAt pattern) (windowAt text columns row column width) (height * width)
+pub flag-one : (q : Question) (row column : ℕ) → column < acrossOf q
+    → (windowFlag q (row * acrossOf q + column) ≡ 1)
+    ↔ Matches (patternAt (q .pattern .cells)) (windowAt (q .text .cells) (q .text .columns) row column (q .pattern .columns)) (q .pattern .rows * q .pattern .columns)
 unfolding windowFlag
-flag-one text columns pattern height width row column h =
-    rw (corner-row (corners columns width) row column h, corner-column (corners columns width) row column h)
-    (one (match-tested (patternAt pattern) (windowAt text columns row column width) (height * width)))
+flag-one q row column h =
+    rw (corner-row (acrossOf q) row column h, corner-column (acrossOf q) row column h)
+    (one (match-tested (patternAt (q .pattern .cells)) (windowAt (q .text .cells) (q .text .columns) row column (q .pattern .columns)) (q .pattern .rows * q .pattern .columns)))
   where
     one : {P : Type 0} {b : Bool} → Tested P b → (_≡_ {A = ℕ} (pick b 1 0) 1) ↔ P
     one (holds p) = ((λ _. p), (λ _. refl))

@@ -4,19 +4,17 @@ ghost use Prim.Native.Nat.{_+_, _-_, _*_, _≤_, _<_};
 ghost use lib.ListN.{length, getD};
 ghost use Rattle.theory.specs.Test.{Tested};
 ghost use Rattle.theory.specs.Store.{stored, storedRows};
-ghost use Rattle.shapes.specs.Refusals.{bufferAfter};
-ghost use Rattle.grid.specs.Counts.{ShapeOf, across, down, countsAfter};
-ghost use Rattle.grid.specs.Distinct.{distinct};
-ghost use Rattle.theory.specs.Table.{table};
+ghost use Rattle.shapes.specs.Shapes.{ShapeOf, across, down};
 ghost use Rattle.matching.specs.Compare.{patternAt};
-ghost use Rattle.flags.specs.Flags.{linkAgrees, linksAgree, flagBy, flagFrom, Room};
+ghost use Rattle.flags.specs.Flags.{linkAgrees, linksAgree, flagBy, flagFrom, Room, RoomFor, rooms, working, marked};
+ghost use Rattle.shapes.specs.Questions.{asked};
 ghost use Rattle.flags.specs.Flags.Strips.{flagOf, LinksAre, Wanted, Ready};
 ghost use Rattle.flags.specs.Flags.Links.{Kept};
 ghost use Rattle.flags.specs.Flags.Own.{Own, itself};
-use grid::counts::Shape;
 use grid::counts::distinct_counts;
 use grid::strips::strip_links;
-use sets::symbols::symbols_of;
+use sets::symbols::pattern_size;
+use shapes::shapes::Shape;
 
 // Whether the link of a position leads out of the window, or to a position with the same symbol in the pattern. No link, 0, leads to the position itself.
 fn link_agrees(pattern: &[u8], p: usize, d: usize) -> bool
@@ -33,7 +31,9 @@ fn link_agrees(pattern: &[u8], p: usize, d: usize) -> bool
 // position agrees: so the pattern is looked at only where the two differ.
 fn links_agree(pattern: &[u8], own: &[u16], links: &[u16], base: usize) -> bool
     requires { ⌜ Own (now pattern) (now own) × (base + length (now pattern) ≤ length (now links)) ⌝ }
-    ensures { λ r. ⌜ r ≡ linksAgree (patternAt (now (pattern .entry))) (λ p. getD (now (links .entry)) (base + p) 0) (length (now (pattern .entry))) ⌝ }
+    ensures { λ r. ⌜
+        r ≡ linksAgree (patternAt (now (pattern .entry))) (λ p. getD (now (links .entry)) (base + p) 0)
+        (length (now (pattern .entry))) ⌝ }
 {
     let mut p = 0;
     while p < pattern.len() {
@@ -51,7 +51,9 @@ fn links_agree(pattern: &[u8], own: &[u16], links: &[u16], base: usize) -> bool
 // The flag of the window that begins at base: the links are looked at only where the counts are equal.
 fn flag(pattern: &[u8], own: &[u16], symbols: u16, count: u16, links: &[u16], base: usize) -> u8
     requires { ⌜ Own (now pattern) (now own) × (base + length (now pattern) ≤ length (now links)) ⌝ }
-    ensures { λ r. ⌜ r ≡ flagBy (patternAt (now (pattern .entry))) symbols count (λ p. getD (now (links .entry)) (base + p) 0) (length (now (pattern .entry))) ⌝ }
+    ensures { λ r. ⌜
+        r ≡ flagBy (patternAt (now (pattern .entry))) symbols count (λ p. getD (now (links .entry)) (base + p) 0)
+        (length (now (pattern .entry))) ⌝ }
 {
     if count != symbols {
         return 0;
@@ -73,8 +75,13 @@ fn flag_strip(
     links: &[u16],
     flags: &mut [u8],
 )
-    requires { ⌜ Room (s .rows * s .columns) (length (now pattern)) s (length (now links)) (length (now counts)) (length (now flags)) × (left < across s) × Own (now pattern) (now own) ⌝ }
-    ensures { λ r. ⌜ now (flags .exit) ≡ stored (flagFrom (now (pattern .entry)) symbols s (now (counts .entry)) (now (links .entry))) (λ top. top * across s + left) (down s) (now (flags .entry)) ⌝ }
+    requires { ⌜
+        Room (s .rows * s .columns) (length (now pattern)) s (length (now links)) (length (now counts))
+        (length (now flags)) × (left < across s) × Own (now pattern) (now own) ⌝ }
+    ensures { λ r. ⌜
+        now (flags .exit) ≡ stored
+        (flagFrom (now (pattern .entry)) symbols s (now (counts .entry)) (now (links .entry)))
+        (λ top. top * across s + left) (down s) (now (flags .entry)) ⌝ }
 {
     let across = s.columns + 1 - s.width;
     let down = s.rows + 1 - s.height;
@@ -105,8 +112,11 @@ fn wanted(symbols: u16, s: Shape, left: usize, counts: &[u16]) -> bool
 
 // The links of the strip at column left, if they are needed.
 fn needed_links(text: &[u8], symbols: u16, s: Shape, left: usize, counts: &[u16], links: &mut [u16])
-    requires { ⌜ ShapeOf s (length (now text)) × (left < across s) × (down s * across s ≤ length (now counts)) × (s .rows * s .width ≤ length (now links)) ⌝ }
-    ensures { λ r. ⌜ (Wanted symbols s left (now (counts .entry)) → LinksAre (now (text .entry)) s left (now (links .exit))) ⌝ }
+    requires { ⌜
+        ShapeOf s (length (now text)) × (left < across s) × (down s * across s ≤ length (now counts))
+        × (s .rows * s .width ≤ length (now links)) ⌝ }
+    ensures { λ r. ⌜
+        (Wanted symbols s left (now (counts .entry)) → LinksAre (now (text .entry)) s left (now (links .exit))) ⌝ }
     ensures { λ r. ⌜ Kept (s .rows * s .width) (now (links .entry)) (now (links .exit)) ⌝ }
 {
     if !wanted(symbols, s, left, counts) {
@@ -127,8 +137,12 @@ fn flag_column(
     links: &mut [u16],
     flags: &mut [u8],
 )
-    requires { ⌜ Ready (now text) (now pattern) symbols s (now counts) (length (now links)) (length (now flags)) × (left < across s) × Own (now pattern) (now own) ⌝ }
-    ensures { λ r. ⌜ now (flags .exit) ≡ stored (flagOf (now (text .entry)) (now (pattern .entry)) s) (λ top. top * across s + left) (down s) (now (flags .entry)) ⌝ }
+    requires { ⌜
+        Ready (now text) (now pattern) symbols s (now counts) (length (now links)) (length (now flags))
+        × (left < across s) × Own (now pattern) (now own) ⌝ }
+    ensures { λ r. ⌜
+        now (flags .exit) ≡ stored (flagOf (now (text .entry)) (now (pattern .entry)) s)
+        (λ top. top * across s + left) (down s) (now (flags .entry)) ⌝ }
     ensures { λ r. ⌜ Kept (s .rows * s .width) (now (links .entry)) (now (links .exit)) ⌝ }
 {
     needed_links(text, symbols, s, left, counts, links);
@@ -146,8 +160,12 @@ fn flag_windows(
     links: &mut [u16],
     flags: &mut [u8],
 )
-    requires { ⌜ Ready (now text) (now pattern) symbols s (now counts) (length (now links)) (length (now flags)) × Own (now pattern) (now own) ⌝ }
-    ensures { λ r. ⌜ now (flags .exit) ≡ storedRows (flagOf (now (text .entry)) (now (pattern .entry)) s) (λ left top. top * across s + left) (across s) (down s) (now (flags .entry)) ⌝ }
+    requires { ⌜
+        Ready (now text) (now pattern) symbols s (now counts) (length (now links)) (length (now flags))
+        × Own (now pattern) (now own) ⌝ }
+    ensures { λ r. ⌜
+        now (flags .exit) ≡ storedRows (flagOf (now (text .entry)) (now (pattern .entry)) s)
+        (λ left top. top * across s + left) (across s) (down s) (now (flags .entry)) ⌝ }
     ensures { λ r. ⌜ Kept (s .rows * s .width) (now (links .entry)) (now (links .exit)) ⌝ }
 {
     let across = s.columns + 1 - s.width;
@@ -185,14 +203,6 @@ fn own_links(pattern: &[u8], s: Shape, own: &mut [u16])
     strip_links(pattern, s.height, s.width, s.width, 0, own);
 }
 
-// How many different symbols the pattern has.
-pub fn pattern_size(pattern: &[u8]) -> u16
-    requires { ⌜ length (now pattern) ≤ 65025 ⌝ }
-    ensures { λ r. ⌜ r ≡ distinct (now (pattern .entry)) ⌝ }
-{
-    symbols_of(pattern).size() as u16
-}
-
 // The first step of the search: the count and the flag of every window. What it used of the links buffer is 0 afterwards.
 pub fn flag_all(
     text: &[u8],
@@ -202,10 +212,13 @@ pub fn flag_all(
     counts: &mut [u16],
     flags: &mut [u8],
 )
-    requires { ⌜ Room (length (now text)) (length (now pattern)) s (length (now links)) (length (now counts)) (length (now flags)) ⌝ }
-    ensures { λ r. ⌜ now (counts .exit) ≡ countsAfter (now (text .entry)) (s .rows) (s .columns) (s .height) (s .width) (now (counts .entry)) ⌝ }
-    ensures { λ r. ⌜ now (flags .exit) ≡ bufferAfter 0 (table (flagOf (now (text .entry)) (now (pattern .entry)) s) (down s * across s)) (now (flags .entry)) ⌝ }
-    ensures { λ r. ⌜ now (links .exit) ≡ bufferAfter 0 (table (λ p. 0) (s .rows * s .width)) (now (links .entry)) ⌝ }
+    requires { ⌜
+        RoomFor (asked (now text) (now pattern) s)
+        (rooms (length (now links)) (length (now counts)) (length (now flags))) ⌝ }
+    ensures { λ r. ⌜
+        working (now (links .exit)) (now (counts .exit)) (now (flags .exit))
+        ≡ marked (asked (now (text .entry)) (now (pattern .entry)) s)
+        (working (now (links .entry)) (now (counts .entry)) (now (flags .entry))) ⌝ }
 {
     let symbols = pattern_size(pattern);
     distinct_counts(text, s.rows, s.columns, s.height, s.width, counts);

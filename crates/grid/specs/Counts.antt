@@ -1,7 +1,6 @@
 -- Document 01's tally operation: the number of different symbols in every window of a text.
 -- Assumes nothing.
-use mathlib.Core.Path.{_≡_, refl, sym, _∙_, subst}
-use mathlib.Core.Bool.{false}
+use mathlib.Core.Path.{_≡_, sym, _∙_, subst}
 use mathlib.Core.List.{List, [], _++_}
 use Prim.Native.Nat.{ℕ, zero, suc, _+_, _-_, _*_, _/_, _%_, _≤_, _<_}
 use native.Mathlib.Nat.{mul-le-mul-right, suc-mul, mod-lt, div-lt-iff-lt-mul, div-add-mod'}
@@ -13,67 +12,68 @@ use borrow.Author.Tests.{le-leb, lt-leb}
 use Rattle.theory.specs.Test.{le-tested, says-true}
 use Rattle.theory.specs.Table.{table, length-table}
 use Rattle.theory.specs.Store.{storedRows, rows-all, Covers}
-use Rattle.shapes.specs.Refusals.{unless, bufferAfter, buffer-refused, returnsMore, unless-plain}
-use Rattle.shapes.specs.Shapes.{shapeThen, goodCells, corners, windows, Shaped, product-le, shape-plain, shape-refused, shape-then-zero, one-passed, text-passed, text-passes}
+use Rattle.shapes.specs.Said.{Said, accepts, refuses, _then_, check, bufferBy, outcomeSaid, then-stopped, then-both, check-true, buffer-kept}
+use Rattle.shapes.specs.Questions.{textSaid, text-shaped, text-said}
+use Rattle.shapes.specs.Shapes.{corners, product-le}
+use Rattle.shapes.specs.declared.refusals.Refusal.{Refusal}
+use Rattle.shapes.specs.declared.refusals.Outcome.{Outcome}
+use Rattle.shapes.specs.declared.refusals.Outcome.the-variants.{Refused}
 use Rattle.shapes.specs.Windows.{windowCells, rowCells, cornerRow, cornerColumn, corner-row, corner-column, row-inside, length-row-le, length-cells, cells-none, cells-last-row, cells-first-row}
 use Rattle.grid.specs.Distinct.{distinct}
 use Rattle.grid.specs.Occurrences.{Occurrences, Tracks, Room, Adds, size-le}
-use Rattle.grid.specs.declared.counts.Shape.{Shape}
+use Rattle.shapes.specs.declared.shapes.Shape.{Shape}
+use Rattle.shapes.specs.Shapes.{ShapeOf, across, down}
 
 -- the number of different symbols in window k
 pub windowCount : List ℕ → ℕ → ℕ → ℕ → ℕ → ℕ
 windowCount text columns height width k =
     distinct (windowCells text columns (cornerRow (corners columns width) k) (cornerColumn (corners columns width) k) height width)
 
--- What the operation answers: refused by 2, 3, 4, 10, or accepted, 0.
-unfoldable pub countsNumber : ℕ → ℕ → ℕ → ℕ → ℕ → ℕ → ℕ
-countsNumber cells rows columns height width room =
-    shapeThen (goodCells cells rows columns) rows columns height width (unless (leb (windows rows columns height width) room) 10 0)
+-- the same of the windows of that size
+abbrev pub countOf : List ℕ → Shape → ℕ → ℕ
+countOf text s = windowCount text (s .columns) (s .height) (s .width)
+
+-- What the operation says: 2, 3, 4, 10 in this order.
+unfoldable pub countsSaid : List ℕ → Shape → ℕ → Said
+countsSaid text s room = textSaid text s then check (leb (down s * across s) room) 10
 
 -- the counts buffer afterwards: every window's count, row by row of corners, and the rest as it was
-unfoldable pub countsAfter : List ℕ → ℕ → ℕ → ℕ → ℕ → List ℕ → List ℕ
-countsAfter text rows columns height width counts =
-    bufferAfter (countsNumber (length text) rows columns height width (length counts))
-    (table (windowCount text columns height width) (windows rows columns height width)) counts
+unfoldable pub countsAfter : List ℕ → Shape → List ℕ → List ℕ
+countsAfter text s counts = bufferBy (countsSaid text s (length counts)) (table (countOf text s) (down s * across s)) counts
 
-module _ (cells rows columns height width room : ℕ) where
-  pub counts-shape-refused : (n : ℕ) → n ≡ shapeThen (goodCells cells rows columns) rows columns height width 0 → 0 < n → n ≡ countsNumber cells rows columns height width room
-  unfolding countsNumber
-  counts-shape-refused n e h = e ∙ sym (shape-refused (goodCells cells rows columns) rows columns height width _ (subst (λ (m : ℕ). 0 < m) e h))
+module _ (text : List ℕ) (s : Shape) (room : ℕ) where
+  -- 2, 3, 4 are refused as everywhere
+  pub counts-stopped : (o : Outcome) (why : Refusal) → o ≡ Refused why → outcomeSaid o ≡ textSaid text s → outcomeSaid o ≡ countsSaid text s room
+  unfolding countsSaid
+  counts-stopped o why e d = then-stopped o why (textSaid text s) _ e d
 
   -- nothing is refused exactly if shape and buffer are good
-  -- no number that it gives returns anything besides
-  pub counts-plain : returnsMore (countsNumber cells rows columns height width room) ≡ false
-  unfolding countsNumber
-  counts-plain = shape-plain (goodCells cells rows columns) rows columns height width _ (unless-plain (leb (windows rows columns height width) room) 10 0 refl refl)
+  pub counts-passed : (values : List ℕ) → countsSaid text s room ≡ accepts values → ShapeOf s (length text) × (down s * across s ≤ room)
+  unfolding countsSaid
+  counts-passed values e =
+      let a = then-both (textSaid text s) (check (leb (down s * across s) room) 10) values e in
+      (text-shaped text s (a .0 .0) (a .0 .1), says-true (le-tested (down s * across s) room) (check-true _ 10 [] values (a .1)))
 
-  pub counts-passed : countsNumber cells rows columns height width room ≡ 0 → Shaped cells rows columns height width × (windows rows columns height width ≤ room)
-  unfolding countsNumber
-  counts-passed e =
-      let zero-after = shape-then-zero (goodCells cells rows columns) rows columns height width _ e in
-      let p = one-passed (leb (windows rows columns height width) room) 10 0 (omega arith) (zero-after .1) in
-      (text-passed cells rows columns height width (zero-after .0), says-true (le-tested (windows rows columns height width) room) (p .0))
+  module _ (shape : ShapeOf s (length text)) where
+    pub counts-room-refused : room < down s * across s → refuses 10 [] ≡ countsSaid text s room
+    unfolding countsSaid
+    counts-room-refused h = rw (text-said text s shape, lt-leb (down s * across s) room h)
 
-  module _ (shape : Shaped cells rows columns height width) where
-    pub counts-room-refused : room < windows rows columns height width → 10 ≡ countsNumber cells rows columns height width room
-    unfolding countsNumber
-    counts-room-refused h = sym (text-passes cells rows columns height width shape _ ∙ rw (lt-leb (windows rows columns height width) room h))
+    pub counts-accepted : down s * across s ≤ room → accepts [] ≡ countsSaid text s room
+    unfolding countsSaid
+    counts-accepted h = rw (text-said text s shape, le-leb (down s * across s) room h)
 
-    pub counts-accepted : windows rows columns height width ≤ room → 0 ≡ countsNumber cells rows columns height width room
-    unfolding countsNumber
-    counts-accepted h = sym (text-passes cells rows columns height width shape _ ∙ rw (le-leb (windows rows columns height width) room h))
+module _ (text : List ℕ) (s : Shape) (counts : List ℕ) where
+  -- the buffer of an accepted call
+  pub counts-after : countsSaid text s (length counts) ≡ accepts []
+      → countsAfter text s counts ≡ table (countOf text s) (down s * across s) ++ drop (down s * across s) counts
+  unfolding countsAfter
+  counts-after e = rw (e, length-table (countOf text s) (down s * across s))
 
--- the buffer of an accepted call
-pub counts-after : (text : List ℕ) (rows columns height width : ℕ) (counts : List ℕ) → countsNumber (length text) rows columns height width (length counts) ≡ 0
-    → countsAfter text rows columns height width counts
-    ≡ table (windowCount text columns height width) (windows rows columns height width) ++ drop (windows rows columns height width) counts
-unfolding countsAfter
-counts-after text rows columns height width counts e = rw (e, length-table (windowCount text columns height width) (windows rows columns height width))
-
-pub counts-kept : (text : List ℕ) (rows columns height width : ℕ) (counts : List ℕ) → 0 < countsNumber (length text) rows columns height width (length counts)
-    → counts ≡ countsAfter text rows columns height width counts
-unfolding countsAfter
-counts-kept text rows columns height width counts h = buffer-refused _ _ counts h
+  -- and of a refused one
+  pub counts-kept : (o : Outcome) (why : Refusal) → o ≡ Refused why → outcomeSaid o ≡ countsSaid text s (length counts) → counts ≡ countsAfter text s counts
+  unfolding countsAfter
+  counts-kept o why e d = buffer-kept o why _ _ counts e d
 
 -- a window's count is the number of different symbols among its cells
 pub window-count : (text : List ℕ) (columns height width row column : ℕ) → column < corners columns width
@@ -83,25 +83,9 @@ window-count text columns height width row column h = rw (corner-row (corners co
 
 -- What the inner functions' contracts cite.
 
--- the sides of a text of that many cells, and of a window in it, that were not refused
-abbrev pub ShapeOf : Shape → ℕ → Type 0
-ShapeOf s cells = Shaped cells (s .rows) (s .columns) (s .height) (s .width)
-
 -- the cells of n rows of the strip at column left, from row top on
 abbrev pub cellsOf : List ℕ → Shape → ℕ → ℕ → ℕ → List ℕ
 cellsOf text s top left n = windowCells text (s .columns) top left n (s .width)
-
--- window k's count
-abbrev pub countOf : List ℕ → Shape → ℕ → ℕ
-countOf text s = windowCount text (s .columns) (s .height) (s .width)
-
--- how many windows there are across
-abbrev pub across : Shape → ℕ
-across s = corners (s .columns) (s .width)
-
--- and how many down
-abbrev pub down : Shape → ℕ
-down s = corners (s .rows) (s .height)
 
 -- ---- a strip, row by row
 
@@ -173,11 +157,10 @@ windows-covered s pos =
     }
 
 -- all strips written are the buffer that an accepted call leaves
-pub counts-written : (text : List ℕ) (s : Shape) (counts r : List ℕ) → countsNumber (length text) (s .rows) (s .columns) (s .height) (s .width) (length counts) ≡ 0
-    → r ≡ storedRows (countOf text s) (λ left top. top * across s + left) (across s) (down s) counts
-    → r ≡ countsAfter text (s .rows) (s .columns) (s .height) (s .width) counts
+pub counts-written : (text : List ℕ) (s : Shape) (counts r : List ℕ) → countsSaid text s (length counts) ≡ accepts []
+    → r ≡ storedRows (countOf text s) (λ left top. top * across s + left) (across s) (down s) counts → r ≡ countsAfter text s counts
 counts-written text s counts r z e =
-    let p = counts-passed (length text) (s .rows) (s .columns) (s .height) (s .width) (length counts) z in
+    let p = counts-passed text s (length counts) [] z in
     e
     ∙ rows-all (countOf text s) (λ left top. top * across s + left) (down s) (across s) (down s * across s) counts (windows-covered s (omega arith)) (p .1)
-    ∙ sym (counts-after text (s .rows) (s .columns) (s .height) (s .width) counts z)
+    ∙ sym (counts-after text s counts z)

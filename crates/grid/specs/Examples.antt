@@ -10,7 +10,9 @@ use Rattle.theory.specs.Table.{table}
 use Rattle.shapes.specs.Shapes.{Shaped, Side, corner-inside}
 use Rattle.shapes.specs.Windows.{example-text, example-cells, example-strips, example-length}
 use Rattle.grid.specs.Distinct.{distinct, example-distinct}
-use Rattle.grid.specs.Strips.{linksNumber, linksAfter, links-accepted, links-after}
+use Rattle.shapes.specs.Said.{accepts}
+use Rattle.shapes.specs.Questions.{fourSides}
+use Rattle.grid.specs.Strips.{linksSaid, linksAfter, links-accepted, links-after}
 use Rattle.grid.specs.Strips.Links.{links-of-list, example-link-values}
 use Rattle.grid.specs.Counts.{countsAfter, counts-accepted, counts-after, window-count}
 
@@ -33,9 +35,9 @@ shape =
       cells-is = example-length;
     }
 
-links-good : (left : ℕ) → left + 2 ≤ 3 → linksNumber (length example-text) 2 3 2 left 5 ≡ 0
+links-good : (left : ℕ) → left + 2 ≤ 3 → linksSaid example-text 2 3 2 left 5 ≡ accepts []
 links-good left h =
-    sym (links-accepted (length example-text) 2 3 2 left 5 shape (is-true (corner-inside 2 3 2 2 0 left) (record { row-le = omega arith; column-le = h })) (omega arith))
+    sym (links-accepted example-text 2 3 2 left 5 shape (is-true (corner-inside 2 3 2 2 0 left) (record { row-le = omega arith; column-le = h })) (omega arith))
 
 -- ★ 'Its links for c = 2: strip 0 gives 0 1 0 2, strip 1 gives 0 0 2 1', in a buffer of five entries 9
 pub example-links : (linksAfter example-text 2 3 2 0 (9 ∷ 9 ∷ 9 ∷ 9 ∷ 9 ∷ []) ≡ 0 ∷ 1 ∷ 0 ∷ 2 ∷ 9 ∷ [])
@@ -48,10 +50,10 @@ example-links = (
 )
 
 -- ★ 'Its tallies: 2, 2', in a buffer of three entries 9
-pub example-counts : countsAfter example-text 2 3 2 2 (9 ∷ 9 ∷ 9 ∷ []) ≡ 2 ∷ 2 ∷ 9 ∷ []
+pub example-counts : countsAfter example-text (fourSides 2 3 2 2) (9 ∷ 9 ∷ 9 ∷ []) ≡ 2 ∷ 2 ∷ 9 ∷ []
 unfolding table
 example-counts =
-    counts-after example-text 2 3 2 2 (9 ∷ 9 ∷ 9 ∷ []) (sym (counts-accepted (length example-text) 2 3 2 2 3 shape (omega arith)))
+    counts-after example-text (fourSides 2 3 2 2) (9 ∷ 9 ∷ 9 ∷ []) (sym (counts-accepted example-text (fourSides 2 3 2 2) 3 shape (omega arith)))
     ∙ ap₂ (λ (a b : ℕ). a ∷ b ∷ 9 ∷ [])
     (window-count example-text 3 2 2 0 0 (omega arith) ∙ ap distinct (example-cells .0) ∙ example-distinct .0)
     (window-count example-text 3 2 2 0 1 (omega arith) ∙ ap distinct (example-cells .1) ∙ example-distinct .1)

@@ -2,11 +2,10 @@
 -- Assumes nothing.
 pub mod Links
 pub mod Rows
-use mathlib.Core.Path.{_≡_, refl, sym, _∙_, subst}
+use mathlib.Core.Path.{_≡_}
 use mathlib.Core.Bool.{true, false}
-use mathlib.Core.List.{List, _++_}
+use mathlib.Core.List.{List, [], _++_}
 use Prim.Native.Nat.{ℕ, suc, _+_, _-_, _*_, _≤_, _<_}
-use native.Mathlib.Omega.{arith}
 use lib.Dec.{eqb, ltb, leb}
 use lib.ListN.{length, getD, drop}
 use borrow.Author.Tests.{le-leb, lt-leb}
@@ -14,8 +13,13 @@ use Rattle.theory.specs.Test.{pick, le-tested, says-true}
 use Rattle.theory.specs.First.{first}
 use Rattle.theory.specs.Table.{table, length-table}
 use Rattle.theory.specs.Store.{stored}
-use Rattle.shapes.specs.Refusals.{unless, bufferAfter, buffer-refused, returnsMore, unless-plain}
-use Rattle.shapes.specs.Shapes.{shapeThen, goodCells, cornerInside, corner-inside, Shaped, shape-plain, shape-refused, shape-then-zero, two-passed, text-passed, text-passes}
+use Rattle.shapes.specs.Said.{Said, accepts, refuses, _then_, check, bufferBy, outcomeSaid, then-stopped, then-both, check-passed, check-true, buffer-kept}
+use Rattle.shapes.specs.Questions.{fourSides, textSaid, text-shaped, text-said}
+use Rattle.shapes.specs.Shapes.{cornerInside, corner-inside, Shaped}
+use Rattle.shapes.specs.declared.shapes.Shape.{Shape}
+use Rattle.shapes.specs.declared.refusals.Refusal.{Refusal}
+use Rattle.shapes.specs.declared.refusals.Outcome.{Outcome}
+use Rattle.shapes.specs.declared.refusals.Outcome.the-variants.{Refused}
 use Rattle.shapes.specs.Windows.{stripAt}
 use Rattle.grid.specs.declared.strips.Strip.{Strip}
 
@@ -26,63 +30,64 @@ link s p = distance (first (λ k. eqb (s (p - suc k)) (s p)) p)
     distance : ℕ → ℕ
     distance k = pick (ltb k p) (suc k) 0
 
--- What the operation answers: refused by 2, 3, 4, 5, 9, or accepted, 0. A strip is as tall as the text.
-unfoldable pub linksNumber : ℕ → ℕ → ℕ → ℕ → ℕ → ℕ → ℕ
-linksNumber cells rows columns width left room =
-    shapeThen (goodCells cells rows columns) rows columns rows width
-    (unless (cornerInside rows columns rows width 0 left) 5 (unless (leb (rows * width) room) 9 0))
+-- a strip is as tall as the text
+abbrev pub stripSides : ℕ → ℕ → ℕ → Shape
+stripSides rows columns width = fourSides rows columns rows width
+
+-- What the operation says: 2, 3, 4, 5, 9 in this order.
+unfoldable pub linksSaid : List ℕ → ℕ → ℕ → ℕ → ℕ → ℕ → Said
+linksSaid text rows columns width left room =
+    textSaid text (stripSides rows columns width) then check (cornerInside rows columns rows width 0 left) 5 then check (leb (rows * width) room) 9
 
 -- the links buffer afterwards: the links of the strip's positions, and the rest as it was
 unfoldable pub linksAfter : List ℕ → ℕ → ℕ → ℕ → ℕ → List ℕ → List ℕ
 linksAfter text rows columns width left links =
-    bufferAfter (linksNumber (length text) rows columns width left (length links))
-    (table (link (stripAt text columns left width)) (rows * width)) links
+    bufferBy (linksSaid text rows columns width left (length links)) (table (link (stripAt text columns left width)) (rows * width)) links
 
-module _ (cells rows columns width left room : ℕ) where
+module _ (text : List ℕ) (rows columns width left room : ℕ) where
   -- 2, 3, 4 are refused as everywhere
-  pub links-shape-refused : (n : ℕ) → n ≡ shapeThen (goodCells cells rows columns) rows columns rows width 0 → 0 < n → n ≡ linksNumber cells rows columns width left room
-  unfolding linksNumber
-  links-shape-refused n e h = e ∙ sym (shape-refused (goodCells cells rows columns) rows columns rows width _ (subst (λ (m : ℕ). 0 < m) e h))
+  pub links-stopped : (o : Outcome) (why : Refusal) → o ≡ Refused why → outcomeSaid o ≡ textSaid text (stripSides rows columns width)
+      → outcomeSaid o ≡ linksSaid text rows columns width left room
+  unfolding linksSaid
+  links-stopped o why e d = then-stopped o why (textSaid text (stripSides rows columns width)) _ e d
 
   -- nothing is refused exactly if shape, column and buffer are good
-  -- no number that it gives returns anything besides
-  pub links-plain : returnsMore (linksNumber cells rows columns width left room) ≡ false
-  unfolding linksNumber
-  links-plain =
-      shape-plain (goodCells cells rows columns) rows columns rows width _
-      (unless-plain (cornerInside rows columns rows width 0 left) 5 (unless (leb (rows * width) room) 9 0) refl (unless-plain (leb (rows * width) room) 9 0 refl refl))
+  pub links-passed : (values : List ℕ) → linksSaid text rows columns width left room ≡ accepts values
+      → Shaped (length text) rows columns rows width × (left + width ≤ columns) × (rows * width ≤ room)
+  unfolding linksSaid
+  links-passed values e =
+      let a = then-both (textSaid text (stripSides rows columns width)) (check (cornerInside rows columns rows width 0 left) 5 then check (leb (rows * width) room) 9) values e in
+      let p = check-passed (cornerInside rows columns rows width 0 left) 5 [] (check (leb (rows * width) room) 9) values (a .1) in (
+        text-shaped text (stripSides rows columns width) (a .0 .0) (a .0 .1),
+        says-true (corner-inside rows columns rows width 0 left) (p .0) .column-le,
+        says-true (le-tested (rows * width) room) (check-true _ 9 [] values (p .1)),
+      )
 
-  pub links-passed : linksNumber cells rows columns width left room ≡ 0 → Shaped cells rows columns rows width × (left + width ≤ columns) × (rows * width ≤ room)
-  unfolding linksNumber
-  links-passed e =
-      let zero-after = shape-then-zero (goodCells cells rows columns) rows columns rows width _ e in
-      let shape = text-passed cells rows columns rows width (zero-after .0) in
-      let p = two-passed (cornerInside rows columns rows width 0 left) (leb (rows * width) room) 5 9 (omega arith) (omega arith) (zero-after .1) in
-      (shape, says-true (corner-inside rows columns rows width 0 left) (p .0) .column-le, says-true (le-tested (rows * width) room) (p .1))
+  module _ (shape : Shaped (length text) rows columns rows width) where
+    pub links-column-refused : cornerInside rows columns rows width 0 left ≡ false → refuses 5 [] ≡ linksSaid text rows columns width left room
+    unfolding linksSaid
+    links-column-refused a = rw (text-said text (stripSides rows columns width) shape, a)
 
-  module _ (shape : Shaped cells rows columns rows width) where
-    pub links-column-refused : cornerInside rows columns rows width 0 left ≡ false → 5 ≡ linksNumber cells rows columns width left room
-    unfolding linksNumber
-    links-column-refused a = sym (text-passes cells rows columns rows width shape _ ∙ rw a)
+    pub links-room-refused : cornerInside rows columns rows width 0 left ≡ true → room < rows * width → refuses 9 [] ≡ linksSaid text rows columns width left room
+    unfolding linksSaid
+    links-room-refused a h = rw (text-said text (stripSides rows columns width) shape, a, lt-leb (rows * width) room h)
 
-    pub links-room-refused : cornerInside rows columns rows width 0 left ≡ true → room < rows * width → 9 ≡ linksNumber cells rows columns width left room
-    unfolding linksNumber
-    links-room-refused a h = sym (text-passes cells rows columns rows width shape _ ∙ rw (a, lt-leb (rows * width) room h))
+    pub links-accepted : cornerInside rows columns rows width 0 left ≡ true → rows * width ≤ room → accepts [] ≡ linksSaid text rows columns width left room
+    unfolding linksSaid
+    links-accepted a h = rw (text-said text (stripSides rows columns width) shape, a, le-leb (rows * width) room h)
 
-    pub links-accepted : cornerInside rows columns rows width 0 left ≡ true → rows * width ≤ room → 0 ≡ linksNumber cells rows columns width left room
-    unfolding linksNumber
-    links-accepted a h = sym (text-passes cells rows columns rows width shape _ ∙ rw (a, le-leb (rows * width) room h))
+module _ (text : List ℕ) (rows columns width left : ℕ) (links : List ℕ) where
+  -- the buffer of an accepted call
+  pub links-after : linksSaid text rows columns width left (length links) ≡ accepts []
+      → linksAfter text rows columns width left links ≡ table (link (stripAt text columns left width)) (rows * width) ++ drop (rows * width) links
+  unfolding linksAfter
+  links-after e = rw (e, length-table (link (stripAt text columns left width)) (rows * width))
 
--- the buffer of an accepted call
-pub links-after : (text : List ℕ) (rows columns width left : ℕ) (links : List ℕ) → linksNumber (length text) rows columns width left (length links) ≡ 0
-    → linksAfter text rows columns width left links ≡ table (link (stripAt text columns left width)) (rows * width) ++ drop (rows * width) links
-unfolding linksAfter
-links-after text rows columns width left links e = rw (e, length-table (link (stripAt text columns left width)) (rows * width))
-
-pub links-kept : (text : List ℕ) (rows columns width left : ℕ) (links : List ℕ) → 0 < linksNumber (length text) rows columns width left (length links)
-    → links ≡ linksAfter text rows columns width left links
-unfolding linksAfter
-links-kept text rows columns width left links h = buffer-refused _ _ links h
+  -- and of a refused one
+  pub links-kept : (o : Outcome) (why : Refusal) → o ≡ Refused why → outcomeSaid o ≡ linksSaid text rows columns width left (length links)
+      → links ≡ linksAfter text rows columns width left links
+  unfolding linksAfter
+  links-kept o why e d = buffer-kept o why _ _ links e d
 
 -- What the inner functions' contracts cite.
 

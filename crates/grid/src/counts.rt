@@ -6,22 +6,17 @@ ghost use Prim.Native.Nat.{_+_, _*_, _≤_, _<_};
 ghost use lib.ListN.{length};
 ghost use Rattle.theory.specs.Store.{stored, storedRows};
 ghost use Rattle.grid.specs.Occurrences.{occurrencesOf, Tracks, Room, Starts, Adds, Removes};
-ghost use Rattle.shapes.specs.Refusals.{outcomeNumber, Ends};
+ghost use Rattle.shapes.specs.Said.{outcomeSaid};
+ghost use Rattle.shapes.specs.Questions.{fourSides};
 ghost use Rattle.shapes.specs.Windows.{rowCells};
-ghost use Rattle.grid.specs.Counts.{countsNumber, countsAfter, ShapeOf, cellsOf, countOf, across, down};
+ghost use Rattle.shapes.specs.Shapes.{ShapeOf, across, down};
+ghost use Rattle.grid.specs.Counts.{countsSaid, countsAfter, cellsOf, countOf};
 use shapes::refusals::Outcome;
+use shapes::refusals::Reason;
 use shapes::refusals::Refusal;
-use shapes::shapes::good_cells;
-use shapes::shapes::shape_outcome;
+use shapes::shapes::Shape;
+use shapes::shapes::text_outcome;
 use shapes::windows::row_cells;
-
-// The sides of a text and of a window in it.
-pub struct Shape {
-    pub rows: usize,
-    pub columns: usize,
-    pub height: usize,
-    pub width: usize,
-}
 
 // Begins afresh: no symbol occurs.
 fn clear(occurrences: &mut [u32; 256])
@@ -38,7 +33,8 @@ fn clear(occurrences: &mut [u32; 256])
 // One symbol enters; the number of different ones afterwards.
 fn add_symbol(occurrences: &mut [u32; 256], size: u32, v: u8) -> u32
     requires { ⌜ Room (occurrencesOf (now occurrences) size) 1 ⌝ }
-    ensures { λ r. ⌜ Adds (occurrencesOf (now (occurrences .entry)) size) (v ∷ []) (occurrencesOf (now (occurrences .exit)) r) ⌝ }
+    ensures { λ r. ⌜
+        Adds (occurrencesOf (now (occurrences .entry)) size) (v ∷ []) (occurrencesOf (now (occurrences .exit)) r) ⌝ }
 {
     let at = v as usize;
     let old = occurrences[at];
@@ -49,7 +45,8 @@ fn add_symbol(occurrences: &mut [u32; 256], size: u32, v: u8) -> u32
 // One symbol leaves.
 fn remove_symbol(occurrences: &mut [u32; 256], size: u32, v: u8) -> u32
     requires { ⌜ Starts (occurrencesOf (now occurrences) size) (v ∷ []) ⌝ }
-    ensures { λ r. ⌜ Removes (occurrencesOf (now (occurrences .entry)) size) (v ∷ []) (occurrencesOf (now (occurrences .exit)) r) ⌝ }
+    ensures { λ r. ⌜
+        Removes (occurrencesOf (now (occurrences .entry)) size) (v ∷ []) (occurrencesOf (now (occurrences .exit)) r) ⌝ }
 {
     let at = v as usize;
     let old = occurrences[at];
@@ -60,7 +57,9 @@ fn remove_symbol(occurrences: &mut [u32; 256], size: u32, v: u8) -> u32
 // A row's symbols enter.
 fn add_row(occurrences: &mut [u32; 256], size: u32, row: &[u8]) -> u32
     requires { ⌜ Room (occurrencesOf (now occurrences) size) (length (now row)) ⌝ }
-    ensures { λ r. ⌜ Adds (occurrencesOf (now (occurrences .entry)) size) (now (row .entry)) (occurrencesOf (now (occurrences .exit)) r) ⌝ }
+    ensures { λ r. ⌜
+        Adds (occurrencesOf (now (occurrences .entry)) size) (now (row .entry))
+        (occurrencesOf (now (occurrences .exit)) r) ⌝ }
 {
     let mut next = size;
     let mut i = 0;
@@ -74,7 +73,9 @@ fn add_row(occurrences: &mut [u32; 256], size: u32, row: &[u8]) -> u32
 // A row's symbols leave.
 fn remove_row(occurrences: &mut [u32; 256], size: u32, row: &[u8]) -> u32
     requires { ⌜ Starts (occurrencesOf (now occurrences) size) (now row) ⌝ }
-    ensures { λ r. ⌜ Removes (occurrencesOf (now (occurrences .entry)) size) (now (row .entry)) (occurrencesOf (now (occurrences .exit)) r) ⌝ }
+    ensures { λ r. ⌜
+        Removes (occurrencesOf (now (occurrences .entry)) size) (now (row .entry))
+        (occurrencesOf (now (occurrences .exit)) r) ⌝ }
 {
     let mut next = size;
     let mut i = 0;
@@ -95,8 +96,11 @@ fn strip_row(text: &[u8], s: Shape, top: usize, left: usize) -> &[u8]
 
 // The symbols of the strip's topmost window enter.
 fn add_window(occurrences: &mut [u32; 256], text: &[u8], s: Shape, left: usize) -> u32
-    requires { ⌜ ShapeOf s (length (now text)) × (left + s .width ≤ s .columns) × Tracks (occurrencesOf (now occurrences) 0) [] ⌝ }
-    ensures { λ r. ⌜ Tracks (occurrencesOf (now (occurrences .exit)) r) (cellsOf (now (text .entry)) s 0 left (s .height)) ⌝ }
+    requires { ⌜
+        ShapeOf s (length (now text)) × (left + s .width ≤ s .columns)
+        × Tracks (occurrencesOf (now occurrences) 0) [] ⌝ }
+    ensures { λ r. ⌜
+        Tracks (occurrencesOf (now (occurrences .exit)) r) (cellsOf (now (text .entry)) s 0 left (s .height)) ⌝ }
 {
     let height = s.height;
     let mut size = 0;
@@ -117,8 +121,13 @@ fn slide(
     left: usize,
     top: usize,
 ) -> u32
-    requires { ⌜ ShapeOf s (length (now text)) × (left + s .width ≤ s .columns) × (top + s .height ≤ s .rows) × Tracks (occurrencesOf (now occurrences) size) (cellsOf (now text) s top left (s .height)) ⌝ }
-    ensures { λ r. ⌜ (top + s .height < s .rows → Tracks (occurrencesOf (now (occurrences .exit)) r) (cellsOf (now (text .entry)) s (top + 1) left (s .height))) ⌝ }
+    requires { ⌜
+        ShapeOf s (length (now text)) × (left + s .width ≤ s .columns) × (top + s .height ≤ s .rows)
+        × Tracks (occurrencesOf (now occurrences) size) (cellsOf (now text) s top left (s .height)) ⌝ }
+    ensures { λ r. ⌜
+        (top + s .height < s .rows
+        → Tracks (occurrencesOf (now (occurrences .exit)) r)
+        (cellsOf (now (text .entry)) s (top + 1) left (s .height))) ⌝ }
     ensures { λ r. ⌜ length (now (occurrences .exit)) ≡ 256 ⌝ }
 {
     let next = top + s.height;
@@ -137,8 +146,12 @@ fn strip_counts(
     left: usize,
     counts: &mut [u16],
 )
-    requires { ⌜ ShapeOf s (length (now text)) × (left < across s) × (down s * across s ≤ length (now counts)) × (length (now occurrences) ≡ 256) ⌝ }
-    ensures { λ r. ⌜ now (counts .exit) ≡ stored (countOf (now (text .entry)) s) (λ top. top * across s + left) (down s) (now (counts .entry)) ⌝ }
+    requires { ⌜
+        ShapeOf s (length (now text)) × (left < across s) × (down s * across s ≤ length (now counts))
+        × (length (now occurrences) ≡ 256) ⌝ }
+    ensures { λ r. ⌜
+        now (counts .exit) ≡ stored (countOf (now (text .entry)) s) (λ top. top * across s + left) (down s)
+        (now (counts .entry)) ⌝ }
     ensures { λ r. ⌜ length (now (occurrences .exit)) ≡ 256 ⌝ }
 {
     let width = s.columns + 1 - s.width;
@@ -156,7 +169,9 @@ fn strip_counts(
 // The counts of all windows, strip by strip.
 fn all_counts(text: &[u8], s: Shape, counts: &mut [u16])
     requires { ⌜ ShapeOf s (length (now text)) × (down s * across s ≤ length (now counts)) ⌝ }
-    ensures { λ r. ⌜ now (counts .exit) ≡ storedRows (countOf (now (text .entry)) s) (λ left top. top * across s + left) (across s) (down s) (now (counts .entry)) ⌝ }
+    ensures { λ r. ⌜
+        now (counts .exit) ≡ storedRows (countOf (now (text .entry)) s) (λ left top. top * across s + left)
+        (across s) (down s) (now (counts .entry)) ⌝ }
 {
     let width = s.columns + 1 - s.width;
     let mut occurrences = [0u32; 256];
@@ -168,28 +183,19 @@ fn all_counts(text: &[u8], s: Shape, counts: &mut [u16])
 }
 
 // By what the question is refused: room is the length of the counts buffer.
-fn counts_outcome(
-    cells: usize,
-    rows: usize,
-    columns: usize,
-    height: usize,
-    width: usize,
-    room: usize,
-) -> Outcome
-    ensures { λ r. ⌜ outcomeNumber r ≡ countsNumber cells rows columns height width room ⌝ }
+fn counts_outcome(text: &[u8], s: Shape, room: usize) -> Outcome
+    ensures { λ r. ⌜ outcomeSaid r ≡ countsSaid (now (text .entry)) s room ⌝ }
 {
-    let outcome = shape_outcome(
-        good_cells(cells, rows, columns),
-        rows,
-        columns,
-        height,
-        width,
-    );
+    let rows = s.rows;
+    let columns = s.columns;
+    let height = s.height;
+    let width = s.width;
+    let outcome = text_outcome(text, s);
     let Outcome::Accepted = outcome else {
         return outcome;
     };
     if room < (rows + 1 - height) * (columns + 1 - width) {
-        return Outcome::Refused(Refusal::WindowBufferShort);
+        return Outcome::Refused(Refusal::Plain(Reason::WindowBufferShort));
     }
     Outcome::Accepted
 }
@@ -203,18 +209,20 @@ pub fn distinct_counts(
     width: usize,
     counts: &mut [u16],
 ) -> Outcome
-    ensures { λ r. ⌜ Ends (countsNumber (length (now (text .entry))) rows columns height width (length (now (counts .entry)))) r ⌝ }
-    ensures { λ r. ⌜ now (counts .exit) ≡ countsAfter (now (text .entry)) rows columns height width (now (counts .entry)) ⌝ }
+    ensures { λ r. ⌜
+        outcomeSaid r ≡ countsSaid (now (text .entry)) (fourSides rows columns height width) (length (now (counts .entry))) ⌝ }
+    ensures { λ r. ⌜
+        now (counts .exit) ≡ countsAfter (now (text .entry)) (fourSides rows columns height width) (now (counts .entry)) ⌝ }
 {
-    let outcome = counts_outcome(text.len(), rows, columns, height, width, counts.len());
-    let Outcome::Accepted = outcome else {
-        return outcome;
-    };
     let s = Shape {
         rows,
         columns,
         height,
         width,
+    };
+    let outcome = counts_outcome(text, s, counts.len());
+    let Outcome::Accepted = outcome else {
+        return outcome;
     };
     all_counts(text, s, counts);
     Outcome::Accepted

@@ -5,13 +5,14 @@ ghost use lib.Dec.{eqb};
 ghost use lib.ListN.{length};
 ghost use Rattle.theory.specs.Test.{pick};
 ghost use Rattle.theory.specs.Store.{storedRows};
-ghost use Rattle.shapes.specs.Refusals.{outcomeNumber, Ends};
-ghost use Rattle.grid.specs.Strips.{link, linksNumber, linksAfter, stripSymbols, StripOf, LastPlaces, RowAt, Linkable, LinkedRow};
+ghost use Rattle.shapes.specs.Said.{outcomeSaid};
+ghost use Rattle.grid.specs.Strips.{link, linksSaid, linksAfter, stripSymbols, StripOf, LastPlaces, RowAt, Linkable, LinkedRow};
 use shapes::refusals::Outcome;
+use shapes::refusals::Reason;
 use shapes::refusals::Refusal;
+use shapes::shapes::Shape;
 use shapes::shapes::corner_inside;
-use shapes::shapes::good_cells;
-use shapes::shapes::shape_outcome;
+use shapes::shapes::text_outcome;
 use shapes::windows::row_cells;
 
 // All rows of the columns from left on, as many as the strip is wide.
@@ -43,7 +44,9 @@ fn distance(last: u16, place: usize) -> u16
 // The links of one row of a strip, whose first position is base. The last places are those before the row, and afterwards those with it.
 fn link_row(row: &[u8], base: usize, last: &mut [u16; 256], links: &mut [u16])
     requires { ⌜ Linkable base (now row) (now last) (length (now links)) ⌝ }
-    ensures { λ r. ⌜ ((s : ℕ → ℕ) → RowAt s base (now (row .entry)) → LastPlaces s base (now (last .entry)) → LinkedRow s base (length (now (row .entry))) (now (links .entry)) (now (last .exit)) (now (links .exit))) ⌝ }
+    ensures { λ r. ⌜
+        ((s : ℕ → ℕ) → RowAt s base (now (row .entry)) → LastPlaces s base (now (last .entry))
+        → LinkedRow s base (length (now (row .entry))) (now (links .entry)) (now (last .exit)) (now (links .exit))) ⌝ }
 {
     let mut j = 0;
     while j < row.len() {
@@ -58,7 +61,9 @@ fn link_row(row: &[u8], base: usize, last: &mut [u16; 256], links: &mut [u16])
 // The links of a strip, row by row.
 fn link_rows(text: &[u8], t: Strip, links: &mut [u16])
     requires { ⌜ StripOf t (length (now text)) × (t .rows * t .width ≤ length (now links)) ⌝ }
-    ensures { λ r. ⌜ now (links .exit) ≡ storedRows (link (stripSymbols (now (text .entry)) t)) (λ i j. i * t .width + j) (t .rows) (t .width) (now (links .entry)) ⌝ }
+    ensures { λ r. ⌜
+        now (links .exit) ≡ storedRows (link (stripSymbols (now (text .entry)) t)) (λ i j. i * t .width + j)
+        (t .rows) (t .width) (now (links .entry)) ⌝ }
 {
     let rows = t.rows;
     let mut last = no_places();
@@ -72,24 +77,30 @@ fn link_rows(text: &[u8], t: Strip, links: &mut [u16])
 
 // By what the question is refused: room is the length of the links buffer.
 fn strip_outcome(
-    cells: usize,
+    text: &[u8],
     rows: usize,
     columns: usize,
     width: usize,
     left: usize,
     room: usize,
 ) -> Outcome
-    ensures { λ r. ⌜ outcomeNumber r ≡ linksNumber cells rows columns width left room ⌝ }
+    ensures { λ r. ⌜ outcomeSaid r ≡ linksSaid (now (text .entry)) rows columns width left room ⌝ }
 {
-    let outcome = shape_outcome(good_cells(cells, rows, columns), rows, columns, rows, width);
+    let s = Shape {
+        rows,
+        columns,
+        height: rows,
+        width,
+    };
+    let outcome = text_outcome(text, s);
     let Outcome::Accepted = outcome else {
         return outcome;
     };
     if !corner_inside(rows, columns, rows, width, 0, left) {
-        return Outcome::Refused(Refusal::CornerOutside);
+        return Outcome::Refused(Refusal::Plain(Reason::CornerOutside));
     }
     if room < rows * width {
-        return Outcome::Refused(Refusal::LinksBufferShort);
+        return Outcome::Refused(Refusal::Plain(Reason::LinksBufferShort));
     }
     Outcome::Accepted
 }
@@ -103,10 +114,11 @@ pub fn strip_links(
     left: usize,
     links: &mut [u16],
 ) -> Outcome
-    ensures { λ r. ⌜ Ends (linksNumber (length (now (text .entry))) rows columns width left (length (now (links .entry)))) r ⌝ }
+    ensures { λ r. ⌜
+        outcomeSaid r ≡ linksSaid (now (text .entry)) rows columns width left (length (now (links .entry))) ⌝ }
     ensures { λ r. ⌜ now (links .exit) ≡ linksAfter (now (text .entry)) rows columns width left (now (links .entry)) ⌝ }
 {
-    let outcome = strip_outcome(text.len(), rows, columns, width, left, links.len());
+    let outcome = strip_outcome(text, rows, columns, width, left, links.len());
     let Outcome::Accepted = outcome else {
         return outcome;
     };

@@ -25,6 +25,7 @@ use Rattle.matching.specs.Compare.{patternAt}
 use Rattle.listing.specs.Entries.{bytesAll, pairsOf, entryOf}
 use Rattle.listing.specs.declared.records.Record.{Record}
 use Rattle.listing.specs.declared.records.Record.the-variants.{Closing}
+use Rattle.shapes.specs.Questions.{ask, fourSides}
 use Rattle.search.specs.Listing.{entryOfWindow, foundIn, refusedIn, searchRecords, searchListing, neededLength}
 use Rattle.search.specs.Listing.Length.{length-listing}
 
@@ -69,7 +70,7 @@ module _ (rows columns : ℕ) (pattern : List ℕ) (height width : ℕ) where
   listingFrom w symbols = bytesAll (joined (entryFrom w symbols) (windows rows columns height width) ++ (closingFrom w ∷ []))
 
   -- the listing is that of windows and symbols read from the lists: on lists written out, this computes
-  listing-read : (text : List ℕ) → searchListing text rows columns pattern height width ≡ listingFrom (readAt text) (members (standsIn pattern) 256)
+  listing-read : (text : List ℕ) → searchListing (ask text rows columns pattern height width) ≡ listingFrom (readAt text) (members (standsIn pattern) 256)
   unfolding searchListing searchRecords entryOfWindow foundIn refusedIn listingFrom closingFrom entryFrom answerFrom windowFrom readAt
   listing-read text =
       ap₂ listingFrom
@@ -93,36 +94,36 @@ first-small (suc (suc zero)) = omega arith
 first-small (suc (suc (suc zero))) = omega arith
 first-small (suc (suc (suc (suc k)))) = omega arith
 
--- `searchListing text rows columns pattern height width`: its bytes, record by record
+-- `searchListing (ask text rows columns pattern height width)`: its bytes, record by record
 pub starred-drafts : record {
   -- ★ 'Input 2 3 2 2, sheet 7 7 3 / 3 7 7, motif 1 1 / 2 1. Output in full: `1 0 0`, `2 1 7`, `2 2 3`, `3 0 1 0 0 0 1`, `5 0 1 0 1`; 21 bytes of
   -- listing', which is also the room that the search asks for
-  two-windows : (searchListing firstText 2 3 firstPattern 2 2
+  two-windows : (searchListing (ask firstText 2 3 firstPattern 2 2)
       ≡ (1 ∷ 0 ∷ 0 ∷ []) ++ (2 ∷ 1 ∷ 7 ∷ []) ++ (2 ∷ 2 ∷ 3 ∷ []) ++ (3 ∷ 0 ∷ 1 ∷ 0 ∷ 0 ∷ 0 ∷ 1 ∷ []) ++ (5 ∷ 0 ∷ 1 ∷ 0 ∷ 1 ∷ []))
-      × (length (searchListing firstText 2 3 firstPattern 2 2) ≡ 21)
-      × (neededLength firstText 2 3 firstPattern 2 2 ≡ 21);
+      × (length (searchListing (ask firstText 2 3 firstPattern 2 2)) ≡ 21)
+      × (neededLength (ask firstText 2 3 firstPattern 2 2) ≡ 21);
   -- ★ 'Its links for c = 2: strip 0 gives 0 1 0 2, strip 1 gives 0 0 2 1', in a buffer of five entries 9
   links : (linksAfter firstText 2 3 2 0 (9 ∷ 9 ∷ 9 ∷ 9 ∷ 9 ∷ []) ≡ 0 ∷ 1 ∷ 0 ∷ 2 ∷ 9 ∷ [])
       × (linksAfter firstText 2 3 2 1 (9 ∷ 9 ∷ 9 ∷ 9 ∷ 9 ∷ []) ≡ 0 ∷ 0 ∷ 2 ∷ 1 ∷ 9 ∷ []);
   -- ★ 'Its tallies: 2, 2', in a buffer of three entries 9
-  distinct-counts : countsAfter firstText 2 3 2 2 (9 ∷ 9 ∷ 9 ∷ []) ≡ 2 ∷ 2 ∷ 9 ∷ [];
+  distinct-counts : countsAfter firstText (fourSides 2 3 2 2) (9 ∷ 9 ∷ 9 ∷ []) ≡ 2 ∷ 2 ∷ 9 ∷ [];
   -- ★ '1 by 1, sheet 5, motif 5: `1 0 0`, `2 5 5`, `5 0 1 0 0`'
-  one-cell : searchListing (5 ∷ []) 1 1 (5 ∷ []) 1 1 ≡ (1 ∷ 0 ∷ 0 ∷ []) ++ (2 ∷ 5 ∷ 5 ∷ []) ++ (5 ∷ 0 ∷ 1 ∷ 0 ∷ 0 ∷ []);
+  one-cell : searchListing (ask (5 ∷ []) 1 1 (5 ∷ []) 1 1) ≡ (1 ∷ 0 ∷ 0 ∷ []) ++ (2 ∷ 5 ∷ 5 ∷ []) ++ (5 ∷ 0 ∷ 1 ∷ 0 ∷ 0 ∷ []);
   -- ★ 'Sheet 4 4, motif 1 2 (one row each, as are those below): `4 0 0 0 0 0 1`, `5 0 0 0 1`'
-  alike-in-window : searchListing (4 ∷ 4 ∷ []) 1 2 (1 ∷ 2 ∷ []) 1 2 ≡ (4 ∷ 0 ∷ 0 ∷ 0 ∷ 0 ∷ 0 ∷ 1 ∷ []) ++ (5 ∷ 0 ∷ 0 ∷ 0 ∷ 1 ∷ []);
+  alike-in-window : searchListing (ask (4 ∷ 4 ∷ []) 1 2 (1 ∷ 2 ∷ []) 1 2) ≡ (4 ∷ 0 ∷ 0 ∷ 0 ∷ 0 ∷ 0 ∷ 1 ∷ []) ++ (5 ∷ 0 ∷ 0 ∷ 0 ∷ 1 ∷ []);
   -- ★ 'Sheet 4 5, motif 1 1: `3 0 0 0 0 0 1`, `5 0 0 0 1`'
-  alike-in-pattern : searchListing (4 ∷ 5 ∷ []) 1 2 (1 ∷ 1 ∷ []) 1 2 ≡ (3 ∷ 0 ∷ 0 ∷ 0 ∷ 0 ∷ 0 ∷ 1 ∷ []) ++ (5 ∷ 0 ∷ 0 ∷ 0 ∷ 1 ∷ []);
+  alike-in-pattern : searchListing (ask (4 ∷ 5 ∷ []) 1 2 (1 ∷ 1 ∷ []) 1 2) ≡ (3 ∷ 0 ∷ 0 ∷ 0 ∷ 0 ∷ 0 ∷ 1 ∷ []) ++ (5 ∷ 0 ∷ 0 ∷ 0 ∷ 1 ∷ []);
   -- ★ 'Sheet 4 5 5, motif 1 2 1: `3 0 0 0 0 0 2` first'
-  later-in-pattern : searchListing (4 ∷ 5 ∷ 5 ∷ []) 1 3 (1 ∷ 2 ∷ 1 ∷ []) 1 3 ≡ (3 ∷ 0 ∷ 0 ∷ 0 ∷ 0 ∷ 0 ∷ 2 ∷ []) ++ (5 ∷ 0 ∷ 0 ∷ 0 ∷ 1 ∷ []);
+  later-in-pattern : searchListing (ask (4 ∷ 5 ∷ 5 ∷ []) 1 3 (1 ∷ 2 ∷ 1 ∷ []) 1 3) ≡ (3 ∷ 0 ∷ 0 ∷ 0 ∷ 0 ∷ 0 ∷ 2 ∷ []) ++ (5 ∷ 0 ∷ 0 ∷ 0 ∷ 1 ∷ []);
   -- ★ 'Sheet 4 5 4, motif 1 2 2: `4 0 0 0 0 0 2` first'
-  later-in-window : searchListing (4 ∷ 5 ∷ 4 ∷ []) 1 3 (1 ∷ 2 ∷ 2 ∷ []) 1 3 ≡ (4 ∷ 0 ∷ 0 ∷ 0 ∷ 0 ∷ 0 ∷ 2 ∷ []) ++ (5 ∷ 0 ∷ 0 ∷ 0 ∷ 1 ∷ []);
+  later-in-window : searchListing (ask (4 ∷ 5 ∷ 4 ∷ []) 1 3 (1 ∷ 2 ∷ 2 ∷ []) 1 3) ≡ (4 ∷ 0 ∷ 0 ∷ 0 ∷ 0 ∷ 0 ∷ 2 ∷ []) ++ (5 ∷ 0 ∷ 0 ∷ 0 ∷ 1 ∷ []);
   -- ★ 'Sheet 2 1, motif 1 2: found, pairs 1 2 and 2 1'
-  exchanged : searchListing (2 ∷ 1 ∷ []) 1 2 (1 ∷ 2 ∷ []) 1 2 ≡ (1 ∷ 0 ∷ 0 ∷ []) ++ (2 ∷ 1 ∷ 2 ∷ []) ++ (2 ∷ 2 ∷ 1 ∷ []) ++ (5 ∷ 0 ∷ 1 ∷ 0 ∷ 0 ∷ []);
+  exchanged : searchListing (ask (2 ∷ 1 ∷ []) 1 2 (1 ∷ 2 ∷ []) 1 2) ≡ (1 ∷ 0 ∷ 0 ∷ []) ++ (2 ∷ 1 ∷ 2 ∷ []) ++ (2 ∷ 2 ∷ 1 ∷ []) ++ (5 ∷ 0 ∷ 1 ∷ 0 ∷ 0 ∷ []);
 }
 unfolding standsIn readAt windowFrom answerFrom entryFrom closingFrom listingFrom members count joined bytesAll entryOf pairsOf imageOf answerOf firstEnd first ends earliest mismatchAt mismatchEnding
 starred-drafts =
     record {
-      two-windows = (whole, ap length whole, sym (length-listing firstText 2 3 firstPattern 2 2 first-small) ∙ ap length whole);
+      two-windows = (whole, ap length whole, sym (length-listing (ask firstText 2 3 firstPattern 2 2) first-small) ∙ ap length whole);
       links = example-links;
       distinct-counts = example-counts;
       one-cell = listing-read 1 1 (5 ∷ []) 1 1 (5 ∷ []);
@@ -133,6 +134,6 @@ starred-drafts =
       exchanged = listing-read 1 2 (1 ∷ 2 ∷ []) 1 2 (2 ∷ 1 ∷ []);
     }
   where
-    whole : searchListing firstText 2 3 firstPattern 2 2
+    whole : searchListing (ask firstText 2 3 firstPattern 2 2)
         ≡ 1 ∷ 0 ∷ 0 ∷ 2 ∷ 1 ∷ 7 ∷ 2 ∷ 2 ∷ 3 ∷ 3 ∷ 0 ∷ 1 ∷ 0 ∷ 0 ∷ 0 ∷ 1 ∷ 5 ∷ 0 ∷ 1 ∷ 0 ∷ 1 ∷ []
     whole = listing-read 2 3 firstPattern 2 2 firstText

@@ -3,23 +3,22 @@
 -- Number and values are taken back to the answer, by a function of each: so no two records have the same bytes.
 -- Assumes nothing.
 use mathlib.Core.Path.{_≡_, refl, sym, _∙_, ap}
-use mathlib.Core.Bool.{Bool}
-use mathlib.Core.List.{List, _∷_}
+use mathlib.Core.Bool.{Bool, true, false}
+use mathlib.Core.List.{List, [], _∷_}
 use Prim.Native.Nat.{ℕ, _+_, _*_, _≤_, _<_}
 use native.Mathlib.Nat.{div-add-mod'}
 use native.Mathlib.Omega.{arith}
 use lib.Dec.{eqb, ltb}
 use lib.ListN.{length, getD, take, drop, length-drop}
 use lib.Seq.{length-take-le}
-use borrow.Author.Tests.{ne-eqb}
 use Rattle.theory.specs.Test.{Tested, holds, fails, pick, lt-tested, says-true}
-use Rattle.shapes.specs.Refusals.{numberOf, valuesOf, number-positive}
-use Rattle.shapes.specs.Shapes.{two-passed}
+use Rattle.shapes.specs.Refusals.{numberOf, valuesOf}
+use Rattle.shapes.specs.Said.{Said, accepts, refuses, _then_, checkWith, saidValues, refusalSaid, not-accepted, check-passed}
 use Rattle.shapes.specs.declared.refusals.Refusal.{Refusal}
-use Rattle.shapes.specs.declared.refusals.Refusal.the-variants.{SizesMissing, SideRange, CellCount, TooLarge, CornerOutside, ListingForm, ListingFalse, TooManyCells, LinksBufferShort, WindowBufferShort, ListingBufferShort, HasOtherImage, HasOtherPreimage, ColumnsDisagree, CursorSpent}
+use Rattle.shapes.specs.declared.refusals.Refusal.the-variants.{Plain, ListingForm, ListingFalse, ListingBufferShort, CursorSpent}
 use Rattle.listing.specs.Records.{bytesOf}
-use Rattle.listing.specs.Reader.{sizeAt, wholeAt, cursorNumber, readNumber, readValues, Reads}
-use Rattle.listing.specs.Reading.{HasRecord, whole-tested, has-inside, number-whole, reads-spent, reads-form}
+use Rattle.listing.specs.Reader.{sizeAt, wholeAt, wholeValues, cursorSaid, Reads}
+use Rattle.listing.specs.Reading.{HasRecord, whole-tested, has-inside, said-whole, reads-spent, reads-form}
 use Rattle.listing.specs.declared.records.Spoiled.{Spoiled}
 use Rattle.listing.specs.declared.records.Record.{Record}
 use Rattle.listing.specs.declared.records.Record.the-variants.{Found, Pair, AlikeInPattern, AlikeInWindow, Closing}
@@ -57,61 +56,44 @@ record-of (Closing found refused) = rw (div-add-mod' found 256, div-add-mod' ref
 pub bytes-injective : (r s : Record) → bytesOf r ≡ bytesOf s → r ≡ s
 bytes-injective r s e = sym (record-of r) ∙ ap recordOf e ∙ record-of s
 
--- ---- an answer by its number and values
+-- ---- an answer by what it says
 
+-- of the refusals that return something
 refusalOf : ℕ → List ℕ → Refusal
 refusalOf n v =
-    pick (eqb n 1) SizesMissing
-    (pick (eqb n 2) SideRange
-    (pick (eqb n 3) CellCount
-    (pick (eqb n 4) TooLarge
-    (pick (eqb n 5) CornerOutside
-    (pick (eqb n 6) (ListingForm (getD v 0 0))
-    (pick (eqb n 7) (ListingFalse (getD v 0 0))
-    (pick (eqb n 8) TooManyCells
-    (pick (eqb n 9) LinksBufferShort
-    (pick (eqb n 10) WindowBufferShort
-    (pick (eqb n 11) (ListingBufferShort (getD v 0 0))
-    (pick (eqb n 12) HasOtherImage
-    (pick (eqb n 13) HasOtherPreimage
-    (pick (eqb n 14) ColumnsDisagree
-    (CursorSpent (getD v 0 0)))))))))))))))
+    pick (eqb n 6) (ListingForm (getD v 0 0))
+    (pick (eqb n 7) (ListingFalse (getD v 0 0)) (pick (eqb n 11) (ListingBufferShort (getD v 0 0)) (CursorSpent (getD v 0 0))))
 
-refusal-of : (why : Refusal) → refusalOf (numberOf why) (valuesOf why) ≡ why
+refusal-of : (why : Refusal) (at : ℕ) → valuesOf why ≡ at ∷ [] → refusalOf (numberOf why) (valuesOf why) ≡ why
 unfolding refusalOf
-refusal-of SizesMissing = refl
-refusal-of SideRange = refl
-refusal-of CellCount = refl
-refusal-of TooLarge = refl
-refusal-of CornerOutside = refl
-refusal-of (ListingForm at) = refl
-refusal-of (ListingFalse at) = refl
-refusal-of TooManyCells = refl
-refusal-of LinksBufferShort = refl
-refusal-of WindowBufferShort = refl
-refusal-of (ListingBufferShort needed) = refl
-refusal-of HasOtherImage = refl
-refusal-of HasOtherPreimage = refl
-refusal-of ColumnsDisagree = refl
-refusal-of (CursorSpent at) = refl
+refusal-of (Plain why) at h = absurd (let z : _≡_ {A = ℕ} 0 1 = ap length h in omega arith)
+refusal-of (ListingForm x) at h = refl
+refusal-of (ListingFalse x) at h = refl
+refusal-of (ListingBufferShort needed) at h = refl
+refusal-of (CursorSpent x) at h = refl
 
-answerOf : ℕ → List ℕ → Read
-answerOf n v = pick (eqb n 0) (Whole (recordOf (drop 1 v)) (record { at = getD v 0 0 })) (Refused (refusalOf n v))
+answerOf : Said → Read
+answerOf (accepts v) = Whole (recordOf (drop 1 v)) (record { at = getD v 0 0 })
+answerOf (refuses n v) = Refused (refusalOf n v)
 
-answer-of : (q : Read) → answerOf (readNumber q) (readValues q) ≡ q
+-- the reader's refusals return the place
+cursor-place : (listing : List ℕ) (at : ℕ) (why : Refusal) → refusalSaid why ≡ cursorSaid listing at → valuesOf why ≡ at ∷ []
+unfolding cursorSaid
+cursor-place listing at why e = go (ltb at (length listing)) (wholeAt listing at) e
+  where
+    go : (a b : Bool) → refusalSaid why ≡ checkWith a 15 (at ∷ []) then checkWith b 6 (at ∷ []) then accepts (wholeValues listing at) → valuesOf why ≡ at ∷ []
+    go true true e = absurd (not-accepted (numberOf why) (valuesOf why) (wholeValues listing at) e)
+    go true false e = ap saidValues e
+    go false b e = ap saidValues e
+
+answer-is : (listing : List ℕ) (at : ℕ) (q : Read) → Reads listing at q → q ≡ answerOf (cursorSaid listing at)
 unfolding answerOf
-answer-of (Whole r next) = ap (λ (s : Record). Whole s next) (record-of r)
-answer-of (Refused why) =
-    let some : numberOf why ≡ 0 → ⊥ = λ e. omega (arith, number-positive why) in
-    rw (ne-eqb (numberOf why) 0 some) (ap Refused (refusal-of why))
-
--- two answers with the same number and the same values are the same
-pub answer-injective : (p q : Read) → readNumber p ≡ readNumber q → readValues p ≡ readValues q → p ≡ q
-answer-injective p q e f = sym (answer-of p) ∙ rw (e, f) (answer-of q)
+answer-is listing at (Whole r next) h = sym (ap answerOf (sym (h .said-is)) ∙ ap (λ (s : Record). Whole s next) (record-of r))
+answer-is listing at (Refused why) h = sym (ap answerOf (sym (h .said-is)) ∙ ap Refused (refusal-of why at (cursor-place listing at why (h .said-is))))
 
 -- what reading at a place answers is determined
 pub reads-is : (listing : List ℕ) (at : ℕ) (p q : Read) → Reads listing at p → Reads listing at q → p ≡ q
-reads-is listing at p q h k = answer-injective p q (h .number ∙ sym (k .number)) (h .values ∙ sym (k .values))
+reads-is listing at p q h k = answer-is listing at p h ∙ sym (answer-is listing at q k)
 
 -- ---- what a caller of the reader learns
 
@@ -128,18 +110,17 @@ pub data RefusedAt (listing : List ℕ) (at : ℕ) : Refusal → Type 0 where
   form : at < length listing → (HasRecord listing at → ⊥) → RefusedAt listing at (ListingForm at)
 
 module _ (listing : List ℕ) (at : ℕ) where
-  -- where the number is 0, a whole record stands
-  has-record : cursorNumber listing at ≡ 0 → HasRecord listing at
-  unfolding cursorNumber
-  has-record e =
-      says-true (whole-tested listing at)
-      (two-passed (ltb at (length listing)) (wholeAt listing at) 15 6 (omega arith) (omega arith) e .1)
+  -- where reading is accepted, a whole record stands
+  has-record : (values : List ℕ) → cursorSaid listing at ≡ accepts values → HasRecord listing at
+  unfolding cursorSaid
+  has-record values e =
+      let a = check-passed (ltb at (length listing)) 15 (at ∷ []) (checkWith (wholeAt listing at) 6 (at ∷ []) then accepts (wholeValues listing at)) values e in
+      says-true (whole-tested listing at) (check-passed (wholeAt listing at) 6 (at ∷ []) (accepts (wholeValues listing at)) values (a .1) .0)
 
   pub read-whole : (r : Record) (next : Cursor) → Reads listing at (Whole r next) → WholeAt listing at r next
   read-whole r next h =
-      let zero-is : cursorNumber listing at ≡ 0 = sym (h .number) in
-      let has : HasRecord listing at = has-record zero-is in
-      let both-are : next .at ∷ bytesOf r ≡ (at + sizeAt listing at) ∷ take (sizeAt listing at) (drop at listing) = rw zero-is at (h .values) in
+      let has : HasRecord listing at = has-record (next .at ∷ bytesOf r) (sym (h .said-is)) in
+      let both-are : next .at ∷ bytesOf r ≡ (at + sizeAt listing at) ∷ take (sizeAt listing at) (drop at listing) = ap saidValues (h .said-is ∙ said-whole listing at has) in
       let after : next .at ≡ at + sizeAt listing at = cc in
       let bytes : bytesOf r ≡ take (sizeAt listing at) (drop at listing) = cc in
       let size : length (bytesOf r) ≡ sizeAt listing at =
@@ -154,9 +135,7 @@ module _ (listing : List ℕ) (at : ℕ) where
   refused-by : {b c : Bool} (why : Refusal) → Tested (at < length listing) b → Tested (HasRecord listing at) c
       → Reads listing at (Refused why) → RefusedAt listing at why
   refused-by why (holds h) (holds r) q =
-      let some = number-positive why in
-      let none : numberOf why ≡ 0 = q .number ∙ number-whole listing at r in
-      absurd (omega arith)
+      absurd (not-accepted (numberOf why) (valuesOf why) (wholeValues listing at) (q .said-is ∙ said-whole listing at r))
   refused-by why (holds h) (fails n) q =
       let same : Refused why ≡ Refused (ListingForm at) = reads-is listing at _ _ q (reads-form listing at h n) in
       let why-is : why ≡ ListingForm at = cc in

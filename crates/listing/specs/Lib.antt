@@ -2,7 +2,6 @@ pub mod Records
 pub mod Entries
 pub mod Lengths
 pub mod Writing
-pub mod Pieces
 pub mod Reader
 pub mod Reading
 pub mod Answers

@@ -7,20 +7,15 @@ use Prim.Native.Nat.{ℕ, zero, suc, _+_, _<_}
 use lib.Dec.{ltb, leb}
 use lib.ListN.{length, getD, take, drop}
 use Rattle.theory.specs.Test.{both}
-use Rattle.shapes.specs.Refusals.{numberOf, valuesOf, unless}
+use Rattle.shapes.specs.Said.{Said, accepts, _then_, checkWith, refusalSaid}
 use Rattle.listing.specs.Records.{bytesOf, kindSize}
 use Rattle.listing.specs.declared.reader.Read.{Read}
 use Rattle.listing.specs.declared.reader.Read.the-variants.{Whole, Refused}
 
--- document 01's number of an answer: 0 where there is a whole record
-abbrev pub readNumber : Read → ℕ
-readNumber (Whole r next) = 0
-readNumber (Refused why) = numberOf why
-
--- and its values: the place after the record and the record's bytes; of a refusal, the cursor's place
-abbrev pub readValues : Read → List ℕ
-readValues (Whole r next) = next .at ∷ bytesOf r
-readValues (Refused why) = valuesOf why
+-- document 01's number and values of an answer: the place after the record and the record's bytes; of a refusal its number and the cursor's place
+abbrev pub readSaid : Read → Said
+readSaid (Whole r next) = accepts (next .at ∷ bytesOf r)
+readSaid (Refused why) = refusalSaid why
 
 -- how long the record at a place is, by its kind
 abbrev pub sizeAt : List ℕ → ℕ → ℕ
@@ -30,19 +25,18 @@ sizeAt listing at = kindSize (getD listing at 0)
 abbrev pub wholeAt : List ℕ → ℕ → Bool
 wholeAt listing at = both (ltb 0 (sizeAt listing at)) (leb (at + sizeAt listing at) (length listing))
 
--- 15 at or past the end, then 6
-unfoldable pub cursorNumber : List ℕ → ℕ → ℕ
-cursorNumber listing at = unless (ltb at (length listing)) 15 (unless (wholeAt listing at) 6 0)
+-- the place after the record at a place, and its bytes: the listing's next bytes, as many as the record has
+abbrev pub wholeValues : List ℕ → ℕ → List ℕ
+wholeValues listing at = (at + sizeAt listing at) ∷ take (sizeAt listing at) (drop at listing)
 
--- the listing's next bytes, as many as the record has
-abbrev pub cursorValues : ℕ → List ℕ → ℕ → List ℕ
-cursorValues zero listing at = (at + sizeAt listing at) ∷ take (sizeAt listing at) (drop at listing)
-cursorValues (suc number) listing at = at ∷ []
+-- 15 at or past the end, then 6, both with the place; else the record
+unfoldable pub cursorSaid : List ℕ → ℕ → Said
+cursorSaid listing at =
+    checkWith (ltb at (length listing)) 15 (at ∷ []) then checkWith (wholeAt listing at) 6 (at ∷ []) then accepts (wholeValues listing at)
 
 -- what reading at a place answers
 pub record Reads (listing : List ℕ) (at : ℕ) (r : Read) : Type 0 where
-  pub number : readNumber r ≡ cursorNumber listing at
-  pub values : readValues r ≡ cursorValues (cursorNumber listing at) listing at
+  pub said-is : readSaid r ≡ cursorSaid listing at
 
 -- What the inner functions' contracts cite: a byte of that kind stands at the place.
 pub record KindAt (listing : List ℕ) (at kind : ℕ) : Type 0 where

@@ -1,4 +1,4 @@
--- Laws of the reader: which number reading at a place has, and what each of the reader's answers shows. A record is a byte of kind and the
+-- Laws of the reader: what reading at a place says, and what each of the reader's answers shows. A record is a byte of kind and the
 -- bytes behind it, as many as the kind says; so a function that takes these bytes one by one has read the record.
 -- Assumes nothing.
 use mathlib.Core.Path.{_≡_, refl, sym, _∙_, ap}
@@ -9,13 +9,14 @@ use lib.ListN.{length, getD, take, drop}
 use lib.Seq.{drop-cons}
 use borrow.Author.Tests.{ne-eqb}
 use Rattle.theory.specs.Test.{Tested, tested-iff, lt-tested, le-tested, both-tested, is-true, is-false}
+use Rattle.shapes.specs.Said.{accepts, refuses}
 use Rattle.shapes.specs.declared.refusals.Refusal.the-variants.{ListingForm, CursorSpent}
 use Rattle.listing.specs.Records.{bytesOf, kindSize}
-use Rattle.listing.specs.Reader.{sizeAt, wholeAt, cursorNumber, Reads, KindAt, bytesFrom}
+use Rattle.listing.specs.Reader.{sizeAt, wholeAt, wholeValues, cursorSaid, Reads, KindAt, bytesFrom}
 use Rattle.listing.specs.declared.records.Record.{Record}
 use Rattle.listing.specs.declared.reader.Read.the-variants.{Whole, Refused}
 
--- ---- the number of a place
+-- ---- what a place says
 
 -- a whole record stands at a place: a byte of a known kind, and all its bytes are in the listing
 pub record HasRecord (listing : List ℕ) (at : ℕ) : Type 0 where
@@ -29,31 +30,31 @@ whole-tested listing at =
 
 module _ (listing : List ℕ) (at : ℕ) where
   -- at or past the end: 15
-  pub number-spent : length listing ≤ at → cursorNumber listing at ≡ 15
-  unfolding cursorNumber
-  number-spent h = let over : at < length listing → ⊥ = λ k. omega arith in
+  said-spent : length listing ≤ at → cursorSaid listing at ≡ refuses 15 (at ∷ [])
+  unfolding cursorSaid
+  said-spent h = let over : at < length listing → ⊥ = λ k. omega arith in
       rw (is-false (lt-tested at (length listing)) over)
 
   -- inside, where no whole record stands: 6
-  pub number-form : at < length listing → (HasRecord listing at → ⊥) → cursorNumber listing at ≡ 6
-  unfolding cursorNumber
-  number-form h n = rw (is-true (lt-tested at (length listing)) h, is-false (whole-tested listing at) n)
+  said-form : at < length listing → (HasRecord listing at → ⊥) → cursorSaid listing at ≡ refuses 6 (at ∷ [])
+  unfolding cursorSaid
+  said-form h n = rw (is-true (lt-tested at (length listing)) h, is-false (whole-tested listing at) n)
 
-  -- where one stands, which is inside: 0
+  -- where one stands, which is inside: the record
   pub has-inside : HasRecord listing at → at < length listing
   has-inside r = omega (arith, r .known, r .within)
 
-  pub number-whole : HasRecord listing at → cursorNumber listing at ≡ 0
-  unfolding cursorNumber
-  number-whole r = rw (is-true (lt-tested at (length listing)) (has-inside r), is-true (whole-tested listing at) r)
+  pub said-whole : HasRecord listing at → cursorSaid listing at ≡ accepts (wholeValues listing at)
+  unfolding cursorSaid
+  said-whole r = rw (is-true (lt-tested at (length listing)) (has-inside r), is-true (whole-tested listing at) r)
 
   -- ---- the two refusals
 
   pub reads-spent : length listing ≤ at → Reads listing at (Refused (CursorSpent at))
-  reads-spent h = record { number = sym (number-spent h); values = rw (number-spent h) }
+  reads-spent h = record { said-is = sym (said-spent h) }
 
   pub reads-form : at < length listing → (HasRecord listing at → ⊥) → Reads listing at (Refused (ListingForm at))
-  reads-form h n = record { number = sym (number-form h n); values = rw (number-form h n) }
+  reads-form h n = record { said-is = sym (said-form h n) }
 
   -- a byte of no kind
   pub reads-unknown : (kind : ℕ) → KindAt listing at kind → kindSize kind ≡ 0 → Reads listing at (Refused (ListingForm at))
@@ -75,8 +76,7 @@ module _ (listing : List ℕ) (at : ℕ) where
   reads-bytes kind size r k e h b =
       let long : sizeAt listing at ≡ suc size = ap kindSize (k .kind-is) ∙ e in
       let has : HasRecord listing at = record { known = omega arith; within = omega arith } in
-      let zero-is : cursorNumber listing at ≡ 0 = number-whole has in
-      record { number = sym zero-is; values = rw (zero-is, long, b) }
+      record { said-is = rw (said-whole has, long, b) }
 
 -- ---- the bytes of a record, one by one
 

@@ -1,9 +1,8 @@
 -- Document 01's records: the bytes of each. Reader and writer share this one function, and what the check accepts is said with it.
 -- Assumes nothing.
-use mathlib.Core.List.{List, [], _∷_, _++_}
-use Prim.Native.Nat.{ℕ, _+_, _/_, _%_}
+use mathlib.Core.List.{List, [], _∷_}
+use Prim.Native.Nat.{ℕ, _/_, _%_}
 use lib.Dec.{eqb}
-use lib.ListN.{length, take, drop}
 use Rattle.theory.specs.Test.{pick}
 use Rattle.listing.specs.declared.records.Spoiled.{Spoiled}
 use Rattle.listing.specs.declared.records.Record.{Record}
@@ -24,7 +23,3 @@ bytesOf (Closing found refused) = 5 ∷ (found / 256) ∷ (found % 256) ∷ (ref
 -- how long a record of that kind is, 0 where no kind has the number
 unfoldable pub kindSize : ℕ → ℕ
 kindSize kind = pick (eqb kind 1) 3 (pick (eqb kind 2) 3 (pick (eqb kind 3) 7 (pick (eqb kind 4) 7 (pick (eqb kind 5) 5 0))))
-
--- a buffer after bytes were written at a place
-unfoldable pub written : List ℕ → ℕ → List ℕ → List ℕ
-written old at bytes = take at old ++ bytes ++ drop (at + length bytes) old

@@ -9,10 +9,12 @@ use Prim.Native.Nat.{ℕ, _+_, _≤_, _<_}
 use native.Mathlib.Omega.{arith}
 use lib.ListN.{length, getD, take, drop, length-append}
 use lib.Seq.{length-take-le, take-append-seam, drop-append-seam, getD-append-seam}
-use Rattle.listing.specs.Records.{bytesOf, kindSize, written}
+use Rattle.theory.specs.Written.{written}
+use Rattle.listing.specs.Records.{bytesOf, kindSize}
 use Rattle.listing.specs.Entries.{bytesAll, bytes-cons, bytes-append}
-use Rattle.listing.specs.Reader.{sizeAt, cursorNumber, cursorValues, Reads}
-use Rattle.listing.specs.Reading.{HasRecord, number-whole}
+use Rattle.shapes.specs.Said.{accepts}
+use Rattle.listing.specs.Reader.{sizeAt, cursorSaid, Reads}
+use Rattle.listing.specs.Reading.{HasRecord, said-whole}
 use Rattle.listing.specs.Answers.{reads-is}
 use Rattle.listing.specs.declared.records.Record.{Record}
 use Rattle.listing.specs.declared.records.Record.the-variants.{Found, Pair, AlikeInPattern, AlikeInWindow, Closing}
@@ -68,18 +70,14 @@ module _ (xs ys : List ℕ) (r : Record) where
       let long = length-middle xs (bytesOf r) ys in
       record { known = omega arith; within = omega arith }
 
-  -- where a record's bytes stand, reading is not refused
-  pub round-trip-number : cursorNumber (xs ++ bytesOf r ++ ys) (length xs) ≡ 0
-  round-trip-number = number-whole (xs ++ bytesOf r ++ ys) (length xs) stands
-
-  -- and the values are the place after the record and its bytes
-  pub round-trip-values : cursorValues (cursorNumber (xs ++ bytesOf r ++ ys) (length xs)) (xs ++ bytesOf r ++ ys) (length xs)
-      ≡ (length xs + length (bytesOf r)) ∷ bytesOf r
-  round-trip-values =
-      rw (round-trip-number, size-there) (ap (λ (b : List ℕ). (length xs + length (bytesOf r)) ∷ b) (middle xs (bytesOf r) ys))
+  -- where a record's bytes stand, reading gives the place after the record and its bytes
+  pub round-trip-said : cursorSaid (xs ++ bytesOf r ++ ys) (length xs) ≡ accepts ((length xs + length (bytesOf r)) ∷ bytesOf r)
+  round-trip-said =
+      said-whole (xs ++ bytesOf r ++ ys) (length xs) stands
+      ∙ rw size-there (ap (λ (b : List ℕ). accepts ((length xs + length (bytesOf r)) ∷ b)) (middle xs (bytesOf r) ys))
 
   pub round-trip-reads : Reads (xs ++ bytesOf r ++ ys) (length xs) (Whole r (record { at = length xs + length (bytesOf r) }))
-  round-trip-reads = record { number = sym round-trip-number; values = sym round-trip-values }
+  round-trip-reads = record { said-is = sym round-trip-said }
 
   -- whatever reading answers there is the record, with the cursor after it
   pub round-trip : (q : Read) → Reads (xs ++ bytesOf r ++ ys) (length xs) q → q ≡ Whole r (record { at = length xs + length (bytesOf r) })

@@ -3,7 +3,8 @@ ghost use mathlib.Core.Path.{_≡_};
 ghost use mathlib.Core.List.{[], _∷_};
 ghost use Prim.Native.Nat.{_+_, _≤_};
 ghost use lib.ListN.{length};
-ghost use Rattle.listing.specs.Records.{bytesOf, spoiledBytes, written};
+ghost use Rattle.theory.specs.Written.{written};
+ghost use Rattle.listing.specs.Records.{bytesOf, spoiledBytes};
 
 // A place by row and column: a window's corner in the text, or a cell in the pattern.
 pub struct Place {

@@ -4,11 +4,12 @@ pub mod Numbers
 pub mod Laws
 pub mod Operations
 use mathlib.Core.Bool.{Bool}
-use Prim.Native.Nat.{ℕ, zero, suc}
+use Prim.Native.Nat.{ℕ}
 use lib.ListN.{set, replicate}
 use Rattle.theory.specs.Columns.{agree, free, chained}
-use Rattle.shapes.specs.Refusals.{unless}
+use Rattle.shapes.specs.Said.{Said, accepts, refuses, _then_, check, outcomeSaid}
 use Rattle.mapping.specs.declared.bijections.Bijection.{Bijection}
+use Rattle.mapping.specs.declared.bijections.BijectionAnswer.{BijectionAnswer}
 
 -- no symbol has an image
 unfoldable pub emptyBijection : Bijection
@@ -30,31 +31,41 @@ inverse b = record { forward = b .backward; backward = b .forward }
 unfoldable pub composite : Bijection → Bijection → Bijection
 composite b d = record { forward = chained (b .forward) (d .forward); backward = chained (d .backward) (b .backward) }
 
--- what an operation answers that ends with that number: accepted, the new bijection; refused, the one that was given
-abbrev pub bijectionAfter : ℕ → Bijection → Bijection → Bijection
-bijectionAfter zero new old = new
-bijectionAfter (suc number) new old = old
+-- ---- the operations
 
--- pairing a with c: refused by 14, then by 12 where a has another image, then by 13 where c is another's image
-unfoldable pub pairNumber : Bijection → ℕ → ℕ → ℕ
-pairNumber b a c = unless (goodColumns b) 14 (unless (free (b .forward) a c) 12 (unless (free (b .backward) c a) 13 0))
+-- what an operation says, and the bijection that it answers
+pub record Renamed : Type 0 where
+  pub said : Said
+  pub bijection : Bijection
 
--- the bijection after pairing
-abbrev pub pairAfter : Bijection → ℕ → ℕ → Bijection
-pairAfter b a c = bijectionAfter (pairNumber b a c) (paired b a c) b
+abbrev pub renamed : BijectionAnswer → Renamed
+renamed r = record { said = outcomeSaid (r .outcome); bijection = r .bijection }
 
--- inverting: refused by 14
-unfoldable pub invertNumber : Bijection → ℕ
-invertNumber b = unless (goodColumns b) 14 0
+-- accepted, the new bijection; refused, the old one
+abbrev pub bijectionBy : Said → Bijection → Bijection → Bijection
+bijectionBy (accepts values) new old = new
+bijectionBy (refuses number values) new old = old
 
--- the bijection after inverting
-abbrev pub invertAfter : Bijection → Bijection
-invertAfter b = bijectionAfter (invertNumber b) (inverse b) b
+abbrev pub renamedBy : Said → Bijection → Bijection → Renamed
+renamedBy said new old = record { said = said; bijection = bijectionBy said new old }
 
--- composing: refused by 14 if either earns it
-unfoldable pub composeNumber : Bijection → Bijection → ℕ
-composeNumber b d = unless (goodColumns b) 14 (unless (goodColumns d) 14 0)
+-- pairing a with c: 14, then 12 where a has another image, then 13 where c is another's image
+unfoldable pub pairSaid : Bijection → ℕ → ℕ → Said
+pairSaid b a c = check (goodColumns b) 14 then check (free (b .forward) a c) 12 then check (free (b .backward) c a) 13
 
--- the bijection after composing
-abbrev pub composeAfter : Bijection → Bijection → Bijection
-composeAfter b d = bijectionAfter (composeNumber b d) (composite b d) b
+unfoldable pub pairOf : Bijection → ℕ → ℕ → Renamed
+pairOf b a c = renamedBy (pairSaid b a c) (paired b a c) b
+
+-- inverting: 14
+unfoldable pub invertSaid : Bijection → Said
+invertSaid b = check (goodColumns b) 14
+
+unfoldable pub invertOf : Bijection → Renamed
+invertOf b = renamedBy (invertSaid b) (inverse b) b
+
+-- composing: 14 if either earns it
+unfoldable pub composeSaid : Bijection → Bijection → Said
+composeSaid b d = check (goodColumns b) 14 then check (goodColumns d) 14
+
+unfoldable pub composeOf : Bijection → Bijection → Renamed
+composeOf b d = renamedBy (composeSaid b d) (composite b d) b

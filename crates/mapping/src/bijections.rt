@@ -1,9 +1,9 @@
 // Bijections between symbols, as two columns: forward gives the image of a pattern symbol, backward the preimage of a text symbol.
 ghost use mathlib.Core.Path.{_≡_};
 ghost use Rattle.theory.specs.Columns.{noneOr, through, chained, backAt, leadsBack};
-ghost use Rattle.shapes.specs.Refusals.{Ends};
-ghost use Rattle.mapping.specs.Bijections.{emptyBijection, goodColumns, pairNumber, pairAfter, invertNumber, invertAfter, composeNumber, composeAfter};
+ghost use Rattle.mapping.specs.Bijections.{emptyBijection, goodColumns, renamed, pairOf, invertOf, composeOf};
 use shapes::refusals::Outcome;
+use shapes::refusals::Reason;
 use shapes::refusals::Refusal;
 
 // 256 stands for no image and no preimage.
@@ -90,12 +90,11 @@ fn may_have(x: u16, y: u8) -> bool
 
 // Pairs a with c. Refused by 14, then 12, then 13.
 pub fn pair(b: Bijection, a: u8, c: u8) -> BijectionAnswer
-    ensures { λ r. ⌜ Ends (pairNumber b a c) (r .outcome) ⌝ }
-    ensures { λ r. ⌜ r .bijection ≡ pairAfter b a c ⌝ }
+    ensures { λ r. ⌜ renamed r ≡ pairOf b a c ⌝ }
 {
     if !columns_agree(b) {
         return BijectionAnswer {
-            outcome: Outcome::Refused(Refusal::ColumnsDisagree),
+            outcome: Outcome::Refused(Refusal::Plain(Reason::ColumnsDisagree)),
             bijection: b,
         };
     }
@@ -104,14 +103,14 @@ pub fn pair(b: Bijection, a: u8, c: u8) -> BijectionAnswer
     let f = b.forward[i];
     if !may_have(f, c) {
         return BijectionAnswer {
-            outcome: Outcome::Refused(Refusal::HasOtherImage),
+            outcome: Outcome::Refused(Refusal::Plain(Reason::HasOtherImage)),
             bijection: b,
         };
     }
     let g = b.backward[j];
     if !may_have(g, a) {
         return BijectionAnswer {
-            outcome: Outcome::Refused(Refusal::HasOtherPreimage),
+            outcome: Outcome::Refused(Refusal::Plain(Reason::HasOtherPreimage)),
             bijection: b,
         };
     }
@@ -126,12 +125,11 @@ pub fn pair(b: Bijection, a: u8, c: u8) -> BijectionAnswer
 
 // Exchanges the columns. Refused by 14.
 pub fn invert(b: Bijection) -> BijectionAnswer
-    ensures { λ r. ⌜ Ends (invertNumber b) (r .outcome) ⌝ }
-    ensures { λ r. ⌜ r .bijection ≡ invertAfter b ⌝ }
+    ensures { λ r. ⌜ renamed r ≡ invertOf b ⌝ }
 {
     if !columns_agree(b) {
         return BijectionAnswer {
-            outcome: Outcome::Refused(Refusal::ColumnsDisagree),
+            outcome: Outcome::Refused(Refusal::Plain(Reason::ColumnsDisagree)),
             bijection: b,
         };
     }
@@ -174,18 +172,17 @@ fn chain<'a>(f: &'a [u16; 256], g: &'a [u16; 256]) -> [u16; 256]
 
 // First b, then d. Refused by 14 if either earns it.
 pub fn compose(b: Bijection, d: Bijection) -> BijectionAnswer
-    ensures { λ r. ⌜ Ends (composeNumber b d) (r .outcome) ⌝ }
-    ensures { λ r. ⌜ r .bijection ≡ composeAfter b d ⌝ }
+    ensures { λ r. ⌜ renamed r ≡ composeOf b d ⌝ }
 {
     if !columns_agree(b) {
         return BijectionAnswer {
-            outcome: Outcome::Refused(Refusal::ColumnsDisagree),
+            outcome: Outcome::Refused(Refusal::Plain(Reason::ColumnsDisagree)),
             bijection: b,
         };
     }
     if !columns_agree(d) {
         return BijectionAnswer {
-            outcome: Outcome::Refused(Refusal::ColumnsDisagree),
+            outcome: Outcome::Refused(Refusal::Plain(Reason::ColumnsDisagree)),
             bijection: b,
         };
     }

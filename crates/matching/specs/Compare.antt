@@ -6,18 +6,18 @@ pub mod Scans
 pub mod RowScans
 pub mod Accepted
 pub mod Verdicts
-use mathlib.Core.Path.{_≡_}
 use mathlib.Core.List.{List, [], _∷_}
-use Prim.Native.Nat.{ℕ, zero, suc, _+_, _*_, _≤_, _<_}
+use Prim.Native.Nat.{ℕ, _+_, _*_, _≤_, _<_}
 use lib.ListN.{length, getD, replicate}
-use Rattle.theory.specs.Test.{pick, both}
-use Rattle.theory.specs.Match.{Answer, matched, mismatched, answerOf, column}
-use Rattle.shapes.specs.Refusals.{numberOf, valuesOf, unless}
-use Rattle.shapes.specs.Shapes.{shapeThen, goodCells, cornerInside}
+use Rattle.theory.specs.Test.{pick}
+use Rattle.theory.specs.Match.{Matches, Answer, matched, mismatched, answerOf, column}
+use Rattle.shapes.specs.Said.{Said, accepts, _then_, check, refusalSaid}
+use Rattle.shapes.specs.Questions.{Question, shapeSaid}
+use Rattle.shapes.specs.Shapes.{cornerInside, Corner}
 use Rattle.shapes.specs.Windows.{windowAt}
-use Rattle.mapping.specs.Bijections.{emptyBijection}
+use Rattle.mapping.specs.Bijections.{emptyBijection, bijectionBy}
 use Rattle.mapping.specs.declared.bijections.Bijection.{Bijection}
-use Rattle.matching.specs.declared.compare.WindowPlace.{WindowPlace}
+use Rattle.shapes.specs.declared.windows.WindowPlace.{WindowPlace}
 use Rattle.matching.specs.declared.compare.Verdict.{Verdict}
 use Rattle.matching.specs.declared.compare.WindowAnswer.{WindowAnswer}
 use Rattle.matching.specs.declared.compare.Verdict.the-variants.{Match, Mismatch, Refused}
@@ -26,18 +26,12 @@ use Rattle.matching.specs.declared.compare.Verdict.the-variants.{Match, 
 abbrev pub patternAt : List ℕ → ℕ → ℕ
 patternAt pattern p = getD pattern p 0
 
--- document 01's number of a verdict: 0 where the question is answered
-abbrev pub verdictNumber : Verdict → ℕ
-verdictNumber Match = 0
-verdictNumber (Mismatch alike earlier later) = 0
-verdictNumber (Refused why) = numberOf why
-
--- document 01's values of a verdict: of a mismatch its record's kind, 3 where alike in the pattern only and 4 where alike in the window only, and
--- the two cells by position. A match's values are its bijection, which stands beside the verdict.
-abbrev pub verdictValues : Verdict → List ℕ
-verdictValues Match = []
-verdictValues (Mismatch alike earlier later) = pick alike 3 4 ∷ earlier ∷ later ∷ []
-verdictValues (Refused why) = valuesOf why
+-- what a verdict says: of a mismatch its record's kind, 3 where alike in the pattern only and 4 where alike in the window only, and the two cells by position.
+-- A match's values are its bijection, which stands beside the verdict.
+abbrev pub verdictSaid : Verdict → Said
+verdictSaid Match = accepts []
+verdictSaid (Mismatch alike earlier later) = accepts (pick alike 3 4 ∷ earlier ∷ later ∷ [])
+verdictSaid (Refused why) = refusalSaid why
 
 -- the verdict that gives an answer
 abbrev pub verdictOf : Answer → Verdict
@@ -49,31 +43,55 @@ unfoldable pub bijectionOf : (ℕ → ℕ) → (ℕ → ℕ) → ℕ → Answer 
 bijectionOf m w n matched = record { forward = column m w n; backward = column w m n }
 bijectionOf m w n (mismatched alike earlier later) = emptyBijection
 
--- refused by 2, 3, 4, 5, or answered, 0. Both text and pattern have the cells that their sides say, or 3.
-unfoldable pub windowNumber : ℕ → ℕ → ℕ → ℕ → ℕ → ℕ → ℕ → ℕ → ℕ
-windowNumber cells rows columns patternCells height width row column =
-    shapeThen (both (goodCells cells rows columns) (goodCells patternCells height width)) rows columns height width
-    (unless (cornerInside rows columns height width row column) 5 0)
+-- ---- of a question
 
--- the values of an answered question; a refused one has none
-abbrev pub valuesAfter : ℕ → Answer → List ℕ
-valuesAfter zero a = verdictValues (verdictOf a)
-valuesAfter (suc number) a = []
+-- the pattern's symbols by position, those of the window at a corner, and how many positions there are
+abbrev pub patternOf : Question → ℕ → ℕ
+patternOf q = patternAt (q .pattern .cells)
 
--- the bijection beside the verdict: beside a refusal, the empty one
-abbrev pub bijectionBeside : ℕ → (ℕ → ℕ) → (ℕ → ℕ) → ℕ → Bijection
-bijectionBeside zero m w n = bijectionOf m w n (answerOf m w n)
-bijectionBeside (suc number) m w n = emptyBijection
+abbrev pub windowIn : Question → ℕ → ℕ → ℕ → ℕ
+windowIn q row column = windowAt (q .text .cells) (q .text .columns) row column (q .pattern .columns)
 
--- what the operation answers: the number, the values and the bijection
-pub record Answers (text : List ℕ) (rows columns : ℕ) (pattern : List ℕ) (height width row column : ℕ) (r : WindowAnswer) : Type 0 where
-  pub number : verdictNumber (r .verdict) ≡ windowNumber (length text) rows columns (length pattern) height width row column
-  pub values : verdictValues (r .verdict)
-      ≡ valuesAfter (windowNumber (length text) rows columns (length pattern) height width row column)
-      (answerOf (patternAt pattern) (windowAt text columns row column width) (height * width))
-  pub bijection : r .bijection
-      ≡ bijectionBeside (windowNumber (length text) rows columns (length pattern) height width row column)
-      (patternAt pattern) (windowAt text columns row column width) (height * width)
+abbrev pub positions : Question → ℕ
+positions q = q .pattern .rows * q .pattern .columns
+
+-- the corner lies in the text, with the window
+abbrev pub CornerIn : Question → ℕ → ℕ → Type 0
+CornerIn q row column = Corner (q .text .rows) (q .text .columns) (q .pattern .rows) (q .pattern .columns) row column
+
+-- a one-to-one mapping of symbols carries the pattern onto the window at a corner
+abbrev pub MatchesAt : Question → ℕ → ℕ → Type 0
+MatchesAt q row column = Matches (patternOf q) (windowIn q row column) (positions q)
+
+-- the window's answer
+abbrev pub answerIn : Question → ℕ → ℕ → Answer
+answerIn q row column = answerOf (patternOf q) (windowIn q row column) (positions q)
+
+-- and the bijection that it has
+abbrev pub bijectionIn : Question → ℕ → ℕ → Bijection
+bijectionIn q row column = bijectionOf (patternOf q) (windowIn q row column) (positions q) (answerIn q row column)
+
+-- 2, 3, 4, 5 in this order
+unfoldable pub placeSaid : Question → ℕ → ℕ → Said
+placeSaid q row column =
+    shapeSaid q then check (cornerInside (q .text .rows) (q .text .columns) (q .pattern .rows) (q .pattern .columns) row column) 5
+
+-- then the answer
+unfoldable pub windowSaid : Question → ℕ → ℕ → Said
+windowSaid q row column = placeSaid q row column then verdictSaid (verdictOf (answerIn q row column))
+
+-- what is told of a window: what is said, and the bijection beside it
+pub record Told : Type 0 where
+  pub said : Said
+  pub bijection : Bijection
+
+abbrev pub told : WindowAnswer → Told
+told r = record { said = verdictSaid (r .verdict); bijection = r .bijection }
+
+-- the one-window question; beside a refusal stands the empty bijection
+unfoldable pub oneWindowOf : Question → ℕ → ℕ → Told
+oneWindowOf q row column =
+    record { said = windowSaid q row column; bijection = bijectionBy (placeSaid q row column) (bijectionIn q row column) emptyBijection }
 
 -- What the inner functions' contracts cite.
 

@@ -3,3 +3,4 @@ pub mod Places
 pub mod Windows
 pub mod Theorems
 pub mod Examples
+pub mod Questions

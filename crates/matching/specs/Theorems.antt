@@ -1,12 +1,12 @@
 -- What the one-window answer says, for a reader who believes nothing but the definition of a match: each theorem needs only what the operation
--- ensures (`Answers`) and that the question was not refused; what it says of the columns needs besides that text and pattern are bytes, which
+-- ensures (`oneWindowOf`) and that the question was not refused; what it says of the columns needs besides that text and pattern are bytes, which
 -- they are wherever code holds them.
 -- Assumes nothing.
 use mathlib.Core.Path.{_≡_, refl, sym, _∙_, ap, subst}
 use mathlib.Core.Bool.{Bool, true, false}
-use mathlib.Core.List.{List}
+use mathlib.Core.List.{[], _∷_}
 use mathlib.Core.Logic.{_↔_}
-use Prim.Native.Nat.{ℕ, zero, suc, _*_, _<_}
+use Prim.Native.Nat.{ℕ, _<_}
 use native.Mathlib.Omega.{arith}
 use lib.ListN.{length, getD}
 use Rattle.theory.specs.Test.{pick}
@@ -15,9 +15,17 @@ use Rattle.theory.specs.Match.Even.{even-carries, even-swap, maps-even, no-imag
 use Rattle.theory.specs.Match.Answers.{LeastMismatch, match-iff, mismatch-iff, no-mismatch-iff}
 use Rattle.theory.specs.Match.Images.{column-at, columns-agree}
 use Rattle.theory.specs.Columns.{Agree}
-use Rattle.shapes.specs.Windows.{windowAt, window-at}
+use Rattle.theory.specs.Bytes.{Bytes}
+use Rattle.shapes.specs.Refusals.{numberOf, valuesOf}
+use Rattle.shapes.specs.Said.{Said, accepts, refuses, saidValues, refusalSaid, not-accepted}
+use Rattle.shapes.specs.Questions.{Question}
+use Rattle.shapes.specs.declared.refusals.Refusal.{Refusal}
+use Rattle.shapes.specs.Windows.{window-at}
+use Rattle.mapping.specs.declared.bijections.Bijection.{Bijection}
+use Rattle.mapping.specs.Bijections.{emptyBijection, bijectionBy}
 use Rattle.mapping.specs.Bijections.Laws.{empty-agrees}
-use Rattle.matching.specs.Compare.{patternAt, windowNumber, verdictNumber, verdictValues, verdictOf, valuesAfter, bijectionOf, bijectionBeside, Answers}
+use Rattle.matching.specs.Compare.{patternOf, windowIn, positions, answerIn, bijectionIn, verdictSaid, verdictOf, bijectionOf, placeSaid, windowSaid, Told, told, oneWindowOf}
+use Rattle.matching.specs.Compare.Accepted.{Askable, place-passes}
 use Rattle.matching.specs.declared.compare.Verdict.{Verdict}
 use Rattle.matching.specs.declared.compare.Verdict.the-variants.{Match, Mismatch as MismatchVerdict, Refused}
 use Rattle.matching.specs.declared.compare.WindowAnswer.{WindowAnswer}
@@ -29,17 +37,20 @@ three-four true false e = absurd (omega arith)
 three-four false true e = absurd (omega arith)
 three-four false false e = refl
 
-verdict-is : (v : Verdict) (a : Answer) → verdictNumber v ≡ 0 → verdictValues v ≡ verdictValues (verdictOf a) → v ≡ verdictOf a
-verdict-is Match matched n e = refl
-verdict-is Match (mismatched s q p) n e = absurd (let z : _≡_ {A = ℕ} 0 1 = cc in omega arith)
-verdict-is (MismatchVerdict s q p) matched n e = absurd (let z : _≡_ {A = ℕ} 0 1 = cc in omega arith)
-verdict-is (MismatchVerdict s q p) (mismatched t i k) n e =
-    let kind : _≡_ {A = ℕ} (pick s 3 4) (pick t 3 4) = cc in
-    let side : s ≡ t = three-four s t kind in
-    let first : q ≡ i = cc in
-    let second : p ≡ k = cc in
-    cc
-verdict-is (Refused why) a n e = absurd (omega (arith, Rattle.shapes.specs.Refusals.number-positive why))
+refused-other : (why : Refusal) (a : Answer) → refusalSaid why ≡ verdictSaid (verdictOf a) → ⊥
+refused-other why matched e = not-accepted (numberOf why) (valuesOf why) [] e
+refused-other why (mismatched s q p) e = not-accepted (numberOf why) (valuesOf why) (pick s 3 4 ∷ q ∷ p ∷ []) e
+
+verdict-is : (v : Verdict) (a : Answer) → verdictSaid v ≡ verdictSaid (verdictOf a) → v ≡ verdictOf a
+verdict-is Match matched e = refl
+verdict-is Match (mismatched s q p) e = absurd (let l : _≡_ {A = ℕ} 0 3 = ap (λ (x : Said). length (saidValues x)) e in omega arith)
+verdict-is (MismatchVerdict s q p) matched e = absurd (let l : _≡_ {A = ℕ} 3 0 = ap (λ (x : Said). length (saidValues x)) e in omega arith)
+verdict-is (MismatchVerdict s q p) (mismatched t i k) e =
+    let side : s ≡ t = three-four s t (ap (λ (x : Said). getD (saidValues x) 0 0) e) in
+    let first : q ≡ i = ap (λ (x : Said). getD (saidValues x) 1 0) e in
+    let second : p ≡ k = ap (λ (x : Said). getD (saidValues x) 2 0) e in
+    rw (side, first, second)
+verdict-is (Refused why) a e = absurd (refused-other why a e)
 
 answered-agrees : (m w : ℕ → ℕ) (n : ℕ) → ((k : ℕ) → m k < 256) → ((k : ℕ) → w k < 256) → (a : Answer) → answerOf m w n ≡ a
     → Agree (bijectionOf m w n a .forward) (bijectionOf m w n a .backward)
@@ -49,22 +60,26 @@ answered-agrees m w n ms ws matched e =
     columns-agree m w n (maps-even m w n (f .0) (f .1)) ms ws
 answered-agrees m w n ms ws (mismatched s q p) e = empty-agrees
 
-module _ (text : List ℕ) (rows columns : ℕ) (pattern : List ℕ) (height width row column : ℕ) (r : WindowAnswer)
-    (answers : Answers text rows columns pattern height width row column r)
-    (accepted : windowNumber (length text) rows columns (length pattern) height width row column ≡ 0) where
+module _ (o : Question) (row column : ℕ) (r : WindowAnswer) (answers : told r ≡ oneWindowOf o row column) (accepted : Askable o row column) where
   -- the pattern and the window by position
   abbrev pub m : ℕ → ℕ
-  m = patternAt pattern
+  m = patternOf o
 
   abbrev pub w : ℕ → ℕ
-  w = windowAt text columns row column width
+  w = windowIn o row column
 
   abbrev pub n : ℕ
-  n = height * width
+  n = positions o
 
   -- the verdict is that of the definition
   pub verdict-right : r .verdict ≡ verdictOf (answerOf m w n)
-  verdict-right = verdict-is (r .verdict) (answerOf m w n) (answers .number ∙ accepted) (answers .values ∙ ap (λ (k : ℕ). valuesAfter k (answerOf m w n)) accepted)
+  unfolding oneWindowOf windowSaid
+  verdict-right = verdict-is (r .verdict) (answerOf m w n) (ap (λ (t : Told). t .said) answers ∙ rw (place-passes o row column accepted))
+
+  -- and so is the bijection
+  pub bijection-right : r .bijection ≡ bijectionOf m w n (answerOf m w n)
+  unfolding oneWindowOf
+  bijection-right = ap (λ (t : Told). t .bijection) answers ∙ rw (place-passes o row column accepted)
 
   answer-is-match : r .verdict ≡ Match → answerOf m w n ≡ matched
   answer-is-match e = go (answerOf m w n) (sym verdict-right ∙ e)
@@ -107,7 +122,7 @@ module _ (text : List ℕ) (rows columns : ℕ) (pattern : List ℕ) (height wid
           differ d = cc
 
   bijection-is : r .verdict ≡ Match → r .bijection ≡ bijectionOf m w n matched
-  bijection-is e = answers .bijection ∙ ap (λ (k : ℕ). bijectionBeside k m w n) accepted ∙ ap (bijectionOf m w n) (answer-is-match e)
+  bijection-is e = bijection-right ∙ ap (bijectionOf m w n) (answer-is-match e)
 
   forward-at : r .verdict ≡ Match → (a : ℕ) → a < 256 → getD (r .bijection .forward) a 0 ≡ imageOf m w n a
   unfolding bijectionOf
@@ -129,9 +144,9 @@ module _ (text : List ℕ) (rows columns : ℕ) (pattern : List ℕ) (height wid
     pub leads-back : (p : ℕ) → p < n → getD (r .bijection .backward) (w p) 0 ≡ m p
     pub no-other-back : (b : ℕ) → b < 256 → ((p : ℕ) → p < n → w p ≡ b → ⊥) → getD (r .bijection .backward) b 0 ≡ 256
 
-  module _ (pattern-bytes : (k : ℕ) → getD pattern k 0 < 256) (text-bytes : (k : ℕ) → getD text k 0 < 256) where
+  module _ (pattern-bytes : Bytes (o .pattern .cells)) (text-bytes : Bytes (o .text .cells)) where
     window-bytes : (k : ℕ) → w k < 256
-    window-bytes k = rw (window-at text columns row column width k) (text-bytes _)
+    window-bytes k = rw (window-at (o .text .cells) (o .text .columns) row column (o .pattern .columns) k) (text-bytes _)
 
     pub window-bijection : r .verdict ≡ Match → PairsJust
     window-bijection e =
@@ -148,27 +163,15 @@ module _ (text : List ℕ) (rows columns : ℕ) (pattern : List ℕ) (height wid
         }
 
 -- whatever the answer, match, mismatch or refusal, its bijection's columns agree: inverting and composing it is accepted
-pub window-agrees : (text : List ℕ) (rows columns : ℕ) (pattern : List ℕ) (height width row column : ℕ) (r : WindowAnswer)
-    → Answers text rows columns pattern height width row column r → ((k : ℕ) → getD pattern k 0 < 256) → ((k : ℕ) → getD text k 0 < 256)
+pub window-agrees : (o : Question) (row column : ℕ) (r : WindowAnswer) → told r ≡ oneWindowOf o row column → Bytes (o .pattern .cells) → Bytes (o .text .cells)
     → Agree (r .bijection .forward) (r .bijection .backward)
-window-agrees text rows columns pattern height width row column r answers pattern-bytes text-bytes =
-    subst (λ b. Agree (b .forward) (b .backward)) (sym (answers .bijection)) (beside (windowNumber (length text) rows columns (length pattern) height width row column))
+unfolding oneWindowOf
+window-agrees o row column r answers pattern-bytes text-bytes =
+    subst (λ (b : Bijection). Agree (b .forward) (b .backward)) (sym (ap (λ (t : Told). t .bijection) answers)) (beside (placeSaid o row column))
   where
-    m : ℕ → ℕ
-    m = patternAt pattern
+    window-bytes : (k : ℕ) → windowIn o row column k < 256
+    window-bytes k = rw (window-at (o .text .cells) (o .text .columns) row column (o .pattern .columns) k) (text-bytes _)
 
-    w : ℕ → ℕ
-    w = windowAt text columns row column width
-
-    n : ℕ
-    n = height * width
-
-    window-bytes : (k : ℕ) → w k < 256
-    window-bytes k = rw (window-at text columns row column width k) (text-bytes _)
-
-    answered : (a : Answer) → answerOf m w n ≡ a → Agree (bijectionOf m w n a .forward) (bijectionOf m w n a .backward)
-    answered = answered-agrees m w n pattern-bytes window-bytes
-
-    beside : (k : ℕ) → Agree (bijectionBeside k m w n .forward) (bijectionBeside k m w n .backward)
-    beside zero = answered (answerOf m w n) refl
-    beside (suc k) = empty-agrees
+    beside : (a : Said) → Agree (bijectionBy a (bijectionIn o row column) emptyBijection .forward) (bijectionBy a (bijectionIn o row column) emptyBijection .backward)
+    beside (accepts values) = answered-agrees (patternOf o) (windowIn o row column) (positions o) pattern-bytes window-bytes (answerIn o row column) refl
+    beside (refuses number values) = empty-agrees

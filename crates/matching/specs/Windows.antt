@@ -8,11 +8,11 @@ use native.Mathlib.Omega.{arith}
 use lib.ListN.{length}
 use Rattle.shapes.specs.Shapes.{corners, product-le}
 use Rattle.shapes.specs.Windows.{cornerRow, cornerColumn}
-use Rattle.grid.specs.Counts.{ShapeOf, across, down}
-use Rattle.grid.specs.declared.counts.Shape.{Shape}
+use Rattle.shapes.specs.Shapes.{ShapeOf, across, down}
+use Rattle.shapes.specs.declared.shapes.Shape.{Shape}
 use Rattle.matching.specs.Compare.{Placed}
 use Rattle.matching.specs.Compare.Positions.{next-div, next-mod, below-div, below-mod}
-use Rattle.matching.specs.declared.compare.WindowPlace.{WindowPlace}
+use Rattle.shapes.specs.declared.windows.WindowPlace.{WindowPlace}
 
 -- the place of window k: its corner is at row k / across and column k % across
 abbrev pub windowPlace : ℕ → ℕ → ℕ → ℕ → WindowPlace

@@ -7,26 +7,21 @@ ghost use Rattle.theory.specs.Test.{pick};
 ghost use Rattle.theory.specs.First.{first};
 ghost use Rattle.theory.specs.Match.{mismatchBy, earliest, firstEnd, mismatchEnding, answerOf, column};
 ghost use Rattle.theory.specs.Match.Images.{agreesBy};
-ghost use Rattle.shapes.specs.Refusals.{outcomeNumber};
-ghost use Rattle.matching.specs.Compare.{patternAt, windowOf, cellsOf, Placed, noImages, verdictOf, windowNumber, bijectionBeside, Answers};
+ghost use Rattle.shapes.specs.Said.{outcomeSaid};
+ghost use Rattle.shapes.specs.Questions.{ask, asked};
+ghost use Rattle.matching.specs.Compare.{patternAt, windowOf, cellsOf, Placed, noImages, verdictOf, bijectionOf, placeSaid, told, oneWindowOf};
 ghost use Rattle.matching.specs.Compare.RowScans.{RowEnds, mismatchIn};
 use mapping::bijections::Bijection;
 use mapping::bijections::empty;
 use shapes::refusals::Outcome;
+use shapes::refusals::Reason;
 use shapes::refusals::Refusal;
+use shapes::shapes::Shape;
 use shapes::shapes::corner_inside;
-use shapes::shapes::pattern_outcome;
+use shapes::shapes::question_outcome;
+use shapes::windows::WindowPlace;
 use view::window_row;
 use view::window_symbol;
-
-// A window of a text: the text's row width, the window's corner and its sides.
-pub struct WindowPlace {
-    pub columns: usize,
-    pub row: usize,
-    pub column: usize,
-    pub height: usize,
-    pub width: usize,
-}
 
 // What is asked of a window.
 pub enum Verdict {
@@ -68,8 +63,11 @@ fn may_pair(f: u16, g: u16, c: u8) -> bool
 // The first cell of a row at which a mismatch ends, or the row's length where none does: cells is the pattern's row, row the window's. The columns, which
 // come with the pairs of the positions before the row, then have those of the cells before it as well.
 fn scan_row(row: &[u8], cells: &[u8], forward: &mut [u16; 256], backward: &mut [u16; 256]) -> usize
-    requires { ⌜ (length (now cells) ≡ length (now row)) × (length (now forward) ≡ 256) × (length (now backward) ≡ 256) ⌝ }
-    ensures { λ r. ⌜ RowEnds (now (row .entry)) (now (cells .entry)) (now (forward .entry)) (now (backward .entry)) r (now (forward .exit)) (now (backward .exit)) ⌝ }
+    requires { ⌜
+        (length (now cells) ≡ length (now row)) × (length (now forward) ≡ 256) × (length (now backward) ≡ 256) ⌝ }
+    ensures { λ r. ⌜
+        RowEnds (now (row .entry)) (now (cells .entry)) (now (forward .entry)) (now (backward .entry)) r
+        (now (forward .exit)) (now (backward .exit)) ⌝ }
 {
     let n = row.len();
     let mut p = 0;
@@ -97,10 +95,14 @@ fn scan(
     forward: &mut [u16; 256],
     backward: &mut [u16; 256],
 ) -> usize
-    requires { ⌜ Placed (now text) v × (length (now pattern) ≡ cellsOf v) × (now forward ≡ noImages) × (now backward ≡ noImages) ⌝ }
+    requires { ⌜
+        Placed (now text) v × (length (now pattern) ≡ cellsOf v) × (now forward ≡ noImages)
+        × (now backward ≡ noImages) ⌝ }
     ensures { λ r. ⌜ r ≡ firstEnd (patternAt (now (pattern .entry))) (windowOf (now (text .entry)) v) (cellsOf v) ⌝ }
-    ensures { λ r. ⌜ now (forward .exit) ≡ column (patternAt (now (pattern .entry))) (windowOf (now (text .entry)) v) r ⌝ }
-    ensures { λ r. ⌜ now (backward .exit) ≡ column (windowOf (now (text .entry)) v) (patternAt (now (pattern .entry))) r ⌝ }
+    ensures { λ r. ⌜
+        now (forward .exit) ≡ column (patternAt (now (pattern .entry))) (windowOf (now (text .entry)) v) r ⌝ }
+    ensures { λ r. ⌜
+        now (backward .exit) ≡ column (windowOf (now (text .entry)) v) (patternAt (now (pattern .entry))) r ⌝ }
 {
     let height = v.height;
     let mut from = 0;
@@ -174,7 +176,8 @@ pub fn earlier_cell(text: &[u8], v: WindowPlace, pattern: &[u8], later: usize) -
 // The mismatch that ends at the position later, which some mismatch does, and begins first.
 fn mismatch_ending(text: &[u8], v: WindowPlace, pattern: &[u8], later: usize) -> Verdict
     requires { ⌜ Placed (now text) v × (length (now pattern) ≡ cellsOf v) × (later < cellsOf v) ⌝ }
-    ensures { λ r. ⌜ r ≡ verdictOf (mismatchEnding (patternAt (now (pattern .entry))) (windowOf (now (text .entry)) v) later) ⌝ }
+    ensures { λ r. ⌜
+        r ≡ verdictOf (mismatchEnding (patternAt (now (pattern .entry))) (windowOf (now (text .entry)) v) later) ⌝ }
 {
     let q = earlier_cell(text, v, pattern, later);
     let a = pattern[q];
@@ -196,8 +199,12 @@ fn no_images() -> [u16; 256]
 // The pattern compared with the window of its size.
 fn compare(text: &[u8], v: WindowPlace, pattern: &[u8]) -> WindowAnswer
     requires { ⌜ Placed (now text) v × (length (now pattern) ≡ cellsOf v) ⌝ }
-    ensures { λ r. ⌜ r .verdict ≡ verdictOf (answerOf (patternAt (now (pattern .entry))) (windowOf (now (text .entry)) v) (cellsOf v)) ⌝ }
-    ensures { λ r. ⌜ r .bijection ≡ bijectionBeside 0 (patternAt (now (pattern .entry))) (windowOf (now (text .entry)) v) (cellsOf v) ⌝ }
+    ensures { λ r. ⌜
+        r .verdict ≡ verdictOf
+        (answerOf (patternAt (now (pattern .entry))) (windowOf (now (text .entry)) v) (cellsOf v)) ⌝ }
+    ensures { λ r. ⌜
+        r .bijection ≡ bijectionOf (patternAt (now (pattern .entry))) (windowOf (now (text .entry)) v) (cellsOf v)
+        (answerOf (patternAt (now (pattern .entry))) (windowOf (now (text .entry)) v) (cellsOf v)) ⌝ }
 {
     let n = v.height * v.width;
     let mut f = no_images();
@@ -222,24 +229,19 @@ fn compare(text: &[u8], v: WindowPlace, pattern: &[u8]) -> WindowAnswer
 }
 
 // By what the question is refused.
-fn window_outcome(
-    cells: usize,
-    rows: usize,
-    columns: usize,
-    pattern_cells: usize,
-    height: usize,
-    width: usize,
-    row: usize,
-    column: usize,
-) -> Outcome
-    ensures { λ r. ⌜ outcomeNumber r ≡ windowNumber cells rows columns «pattern_cells» height width row column ⌝ }
+fn window_outcome(text: &[u8], pattern: &[u8], s: Shape, row: usize, column: usize) -> Outcome
+    ensures { λ r. ⌜ outcomeSaid r ≡ placeSaid (asked (now (text .entry)) (now (pattern .entry)) s) row column ⌝ }
 {
-    let outcome = pattern_outcome(cells, rows, columns, pattern_cells, height, width);
+    let rows = s.rows;
+    let columns = s.columns;
+    let height = s.height;
+    let width = s.width;
+    let outcome = question_outcome(text, pattern, s);
     let Outcome::Accepted = outcome else {
         return outcome;
     };
     if !corner_inside(rows, columns, height, width, row, column) {
-        return Outcome::Refused(Refusal::CornerOutside);
+        return Outcome::Refused(Refusal::Plain(Reason::CornerOutside));
     }
     Outcome::Accepted
 }
@@ -255,18 +257,16 @@ pub fn one_window(
     row: usize,
     column: usize,
 ) -> WindowAnswer
-    ensures { λ r. ⌜ Answers (now (text .entry)) rows columns (now (pattern .entry)) height width row column r ⌝ }
+    ensures { λ r. ⌜
+        told r ≡ oneWindowOf (ask (now (text .entry)) rows columns (now (pattern .entry)) height width) row column ⌝ }
 {
-    let outcome = window_outcome(
-        text.len(),
+    let s = Shape {
         rows,
         columns,
-        pattern.len(),
         height,
         width,
-        row,
-        column,
-    );
+    };
+    let outcome = window_outcome(text, pattern, s, row, column);
     match outcome {
         Outcome::Refused(why) => {
             let none = empty();

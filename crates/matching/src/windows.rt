@@ -3,12 +3,14 @@ ghost use mathlib.Core.Path.{_≡_};
 ghost use Prim.Native.Nat.{ℕ, _+_, _<_};
 ghost use Rattle.shapes.specs.Shapes.{corners};
 ghost use Rattle.matching.specs.Windows.{windowPlace};
-use crate::compare::WindowPlace;
+use shapes::windows::WindowPlace;
 
 // The window after v, row by row of corners. No number of a window is divided.
 pub fn next_window(v: WindowPlace, across: usize) -> WindowPlace
     requires { ⌜ (across ≡ corners (v .columns) (v .width)) × (0 < across) × (v .column < across) × (v .row < 65025) ⌝ }
-    ensures { λ r. ⌜ ((k : ℕ) → v ≡ windowPlace (v .columns) (v .height) (v .width) k → r ≡ windowPlace (v .columns) (v .height) (v .width) (k + 1)) ⌝ }
+    ensures { λ r. ⌜
+        ((k : ℕ) → v ≡ windowPlace (v .columns) (v .height) (v .width) k → r
+        ≡ windowPlace (v .columns) (v .height) (v .width) (k + 1)) ⌝ }
 {
     let column = v.column + 1;
     if column < across {

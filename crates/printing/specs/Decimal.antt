@@ -10,8 +10,8 @@ use lib.Dec.{ltb}
 use lib.ListN.{length, getD, set}
 use borrow.Author.Tests.{lt-ltb, le-ltb}
 use Rattle.theory.specs.Test.{Tested, holds, fails, pick, lt-tested}
-use Rattle.listing.specs.Records.{written}
-use Rattle.listing.specs.Writing.{storesAt, stores-written}
+use Rattle.theory.specs.Written.{written}
+use Rattle.theory.specs.Written.{storesAt, stores-written}
 
 -- the digits, the highest first and no zero in front; 48 is the digit 0
 unfoldable pub decimal : ℕ → List ℕ

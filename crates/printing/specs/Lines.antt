@@ -8,7 +8,8 @@ use mathlib.Core.Path.{_≡_}
 use mathlib.Core.List.{List, [], _∷_, _++_}
 use Prim.Native.Nat.{ℕ, _+_}
 use lib.ListN.{length}
-use Rattle.listing.specs.Records.{bytesOf, written}
+use Rattle.theory.specs.Written.{written}
+use Rattle.listing.specs.Records.{bytesOf}
 use Rattle.listing.specs.Entries.{bytesAll}
 use Rattle.listing.specs.declared.records.Record.{Record}
 use Rattle.printing.specs.Decimal.{decimal}

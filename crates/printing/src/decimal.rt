@@ -3,7 +3,7 @@ ghost use mathlib.Core.Path.{_≡_};
 ghost use mathlib.Core.List.{[], _∷_, _++_};
 ghost use Prim.Native.Nat.{_+_, _≤_};
 ghost use lib.ListN.{length};
-ghost use Rattle.listing.specs.Records.{written};
+ghost use Rattle.theory.specs.Written.{written};
 ghost use Rattle.printing.specs.Decimal.{decimal};
 
 // Writes a number's digits at a place, where there is room for them; the place after them.

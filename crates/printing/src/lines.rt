@@ -2,7 +2,7 @@
 ghost use mathlib.Core.Path.{_≡_};
 ghost use Prim.Native.Nat.{_+_, _*_, _≤_, _<_};
 ghost use lib.ListN.{length};
-ghost use Rattle.listing.specs.Records.{written};
+ghost use Rattle.theory.specs.Written.{written};
 ghost use Rattle.listing.specs.Reader.{sizeAt};
 ghost use Rattle.listing.specs.Reading.{HasRecord};
 ghost use Rattle.printing.specs.Lines.{lineOf, refusalLine, Recorded, Printed};

@@ -14,55 +14,55 @@ use Prim.Native.Nat.{ℕ, _+_, _*_}
 use Rattle.theory.specs.Join.{joined}
 use Rattle.theory.specs.Count.{count}
 use Rattle.theory.specs.Match.{isMatch, imageOf, answerOf}
-use Rattle.shapes.specs.Shapes.{corners, windows}
+use Rattle.shapes.specs.Questions.{Question, acrossOf, windowsOf}
 use Rattle.shapes.specs.Windows.{windowAt, cornerRow, cornerColumn}
 use Rattle.sets.specs.Symbols.{symbolsOf}
 use Rattle.grid.specs.Distinct.{distinct}
 use Rattle.matching.specs.Compare.{patternAt, windowOf, cellsOf}
-use Rattle.matching.specs.declared.compare.WindowPlace.{WindowPlace}
+use Rattle.shapes.specs.declared.windows.WindowPlace.{WindowPlace}
 use Rattle.listing.specs.Entries.{entryOf, bytesAll}
 use Rattle.listing.specs.declared.records.Record.{Record}
 use Rattle.listing.specs.declared.records.Record.the-variants.{Closing}
-use Rattle.flags.specs.Flags.{answerAt}
+use Rattle.matching.specs.Questions.{answerAt}
 
 -- the image of each symbol in window k
-abbrev pub imageAt : List ℕ → ℕ → List ℕ → ℕ → ℕ → ℕ → ℕ → ℕ
-imageAt text columns pattern height width k =
-    imageOf (patternAt pattern)
-    (windowAt text columns (cornerRow (corners columns width) k) (cornerColumn (corners columns width) k) width) (height * width)
+abbrev pub imageAt : Question → ℕ → ℕ → ℕ
+imageAt q k =
+    imageOf (patternAt (q .pattern .cells))
+    (windowAt (q .text .cells) (q .text .columns) (cornerRow (acrossOf q) k) (cornerColumn (acrossOf q) k) (q .pattern .columns)) ((q .pattern .rows) * (q .pattern .columns))
 
 -- the records of window k: those of its one-window answer
-unfoldable pub entryOfWindow : List ℕ → ℕ → List ℕ → ℕ → ℕ → ℕ → List Record
-entryOfWindow text columns pattern height width k =
-    entryOf (cornerRow (corners columns width) k) (cornerColumn (corners columns width) k) width (symbolsOf pattern)
-    (imageAt text columns pattern height width k) (answerAt text columns pattern height width k)
+unfoldable pub entryOfWindow : Question → ℕ → List Record
+entryOfWindow q k =
+    entryOf (cornerRow (acrossOf q) k) (cornerColumn (acrossOf q) k) (q .pattern .columns) (symbolsOf (q .pattern .cells))
+    (imageAt q k) (answerAt q k)
 
 -- how many windows the pattern matches
-unfoldable pub foundIn : List ℕ → ℕ → ℕ → List ℕ → ℕ → ℕ → ℕ
-foundIn text rows columns pattern height width = count (λ k. isMatch (answerAt text columns pattern height width k)) (windows rows columns height width)
+unfoldable pub foundIn : Question → ℕ
+foundIn q = count (λ k. isMatch (answerAt q k)) (windowsOf q)
 
 -- and how many it does not
-unfoldable pub refusedIn : List ℕ → ℕ → ℕ → List ℕ → ℕ → ℕ → ℕ
-refusedIn text rows columns pattern height width = count (λ k. not (isMatch (answerAt text columns pattern height width k))) (windows rows columns height width)
+unfoldable pub refusedIn : Question → ℕ
+refusedIn q = count (λ k. not (isMatch (answerAt q k))) (windowsOf q)
 
 -- the records of all windows in their order, and the closing
-unfoldable pub searchRecords : List ℕ → ℕ → ℕ → List ℕ → ℕ → ℕ → List Record
-searchRecords text rows columns pattern height width =
-    joined (entryOfWindow text columns pattern height width) (windows rows columns height width)
-    ++ (Closing (foundIn text rows columns pattern height width) (refusedIn text rows columns pattern height width) ∷ [])
+unfoldable pub searchRecords : Question → List Record
+searchRecords q =
+    joined (entryOfWindow q) (windowsOf q)
+    ++ (Closing (foundIn q) (refusedIn q) ∷ [])
 
 -- their bytes
-unfoldable pub searchListing : List ℕ → ℕ → ℕ → List ℕ → ℕ → ℕ → List ℕ
-searchListing text rows columns pattern height width = bytesAll (searchRecords text rows columns pattern height width)
+unfoldable pub searchListing : Question → List ℕ
+searchListing q = bytesAll (searchRecords q)
 
 -- with a found, b refused and d numbers in the motif the length is a × (3 + 3d) + 7b + 5
 abbrev pub listingLength : ℕ → ℕ → ℕ → ℕ
 listingLength a b d = a * (3 + 3 * d) + 7 * b + 5
 
 -- the length of this search's listing
-unfoldable pub neededLength : List ℕ → ℕ → ℕ → List ℕ → ℕ → ℕ → ℕ
-neededLength text rows columns pattern height width =
-    listingLength (foundIn text rows columns pattern height width) (refusedIn text rows columns pattern height width) (distinct pattern)
+unfoldable pub neededLength : Question → ℕ
+neededLength q =
+    listingLength (foundIn q) (refusedIn q) (distinct (q .pattern .cells))
 
 -- What the inner functions' contracts cite.
 

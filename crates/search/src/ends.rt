@@ -10,12 +10,14 @@ ghost use Rattle.matching.specs.Compare.{patternAt, windowOf, cellsOf, Placed};
 ghost use Rattle.theory.specs.Older.{Older};
 ghost use Rattle.search.specs.Listing.Columns.{PairsUp};
 ghost use Rattle.search.specs.Listing.Rows.{EndsRow};
-use matching::compare::WindowPlace;
+use shapes::windows::WindowPlace;
 
 // Whether symbol a of the pattern may be paired with symbol c of the window; if so, they are paired. Nothing is stored where they are already.
 fn pair_up(forward: &mut [u32; 256], backward: &mut [u32; 256], base: u32, a: u8, c: u8) -> bool
     requires { ⌜ Older (base + 256) (now forward) × Older (base + 256) (now backward) × (base ≤ 16777216) ⌝ }
-    ensures { λ r. ⌜ PairsUp base a c (now (forward .entry)) (now (backward .entry)) r (now (forward .exit)) (now (backward .exit)) ⌝ }
+    ensures { λ r. ⌜
+        PairsUp base a c (now (forward .entry)) (now (backward .entry)) r (now (forward .exit))
+        (now (backward .exit)) ⌝ }
 {
     let i = a as usize;
     let j = c as usize;
@@ -38,7 +40,8 @@ fn pair_up(forward: &mut [u32; 256], backward: &mut [u32; 256], base: u32, a: u8
 // Whether two cells have their pairs already, as most cells do where a window ends late or not at all: then there is nothing else to ask.
 fn two_paired(forward: &[u32; 256], base: u32, a: u8, c: u8, b: u8, d: u8) -> bool
     requires { ⌜ (length (now forward) ≡ 256) × (base ≤ 16777216) ⌝ }
-    ensures { λ r. ⌜ (r ≡ true → (getD (now (forward .entry)) a 0 ≡ base + c) × (getD (now (forward .entry)) b 0 ≡ base + d)) ⌝ }
+    ensures { λ r. ⌜
+        (r ≡ true → (getD (now (forward .entry)) a 0 ≡ base + c) × (getD (now (forward .entry)) b 0 ≡ base + d)) ⌝ }
 {
     if forward[a as usize] == base + c as u32 {
         if forward[b as usize] == base + d as u32 {
@@ -57,8 +60,12 @@ fn row_end(
     forward: &mut [u32; 256],
     backward: &mut [u32; 256],
 ) -> usize
-    requires { ⌜ (length (now cells) ≡ length (now row)) × Older (base + 256) (now forward) × Older (base + 256) (now backward) × (base ≤ 16777216) ⌝ }
-    ensures { λ r. ⌜ EndsRow base (now (row .entry)) (now (cells .entry)) (now (forward .entry)) (now (backward .entry)) r (now (forward .exit)) (now (backward .exit)) ⌝ }
+    requires { ⌜
+        (length (now cells) ≡ length (now row)) × Older (base + 256) (now forward)
+        × Older (base + 256) (now backward) × (base ≤ 16777216) ⌝ }
+    ensures { λ r. ⌜
+        EndsRow base (now (row .entry)) (now (cells .entry)) (now (forward .entry)) (now (backward .entry)) r
+        (now (forward .exit)) (now (backward .exit)) ⌝ }
 {
     let mut j = 0;
     while j + 1 < row.len() {
@@ -91,7 +98,9 @@ pub fn first_end(
     forward: &mut [u32; 256],
     backward: &mut [u32; 256],
 ) -> usize
-    requires { ⌜ Placed (now text) v × (length (now pattern) ≡ cellsOf v) × (base ≤ 16777216) × Older base (now forward) × Older base (now backward) ⌝ }
+    requires { ⌜
+        Placed (now text) v × (length (now pattern) ≡ cellsOf v) × (base ≤ 16777216) × Older base (now forward)
+        × Older base (now backward) ⌝ }
     ensures { λ r. ⌜ r ≡ firstEnd (patternAt (now (pattern .entry))) (windowOf (now (text .entry)) v) (cellsOf v) ⌝ }
     ensures { λ r. ⌜ Older (base + 256) (now (forward .exit)) × Older (base + 256) (now (backward .exit)) ⌝ }
 {

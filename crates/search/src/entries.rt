@@ -4,7 +4,7 @@ ghost use Prim.Native.Nat.{_+_, _≤_, _<_};
 ghost use lib.ListN.{length};
 ghost use Rattle.matching.specs.Compare.{cellsOf, Placed};
 ghost use Rattle.matching.specs.Windows.{Small};
-ghost use Rattle.listing.specs.Records.{written};
+ghost use Rattle.theory.specs.Written.{written};
 ghost use Rattle.listing.specs.Entries.{bytesAll, spoiledAt, mismatchRecord};
 ghost use Rattle.search.specs.Listing.{entryAt};
 ghost use Rattle.theory.specs.Older.{Older};
@@ -15,10 +15,10 @@ use listing::records::Place;
 use listing::records::Record;
 use listing::records::Spoiled;
 use listing::records::write_record;
-use matching::compare::WindowPlace;
 use matching::compare::earlier_cell;
 use matching::compare::symbol_at;
 use sets::symbols::Symbols;
+use shapes::windows::WindowPlace;
 
 // The pairs of a found window, the pattern's symbols rising: each with the window's symbol at its place.
 fn write_pairs(
@@ -29,9 +29,13 @@ fn write_pairs(
     listing: &mut [u8],
     at: usize,
 ) -> usize
-    requires { ⌜ Placed (now text) v × Standing symbols (now places) v × (at + length (pairBytes (imagesAt (now text) v (now places)) symbols) ≤ length (now listing)) ⌝ }
+    requires { ⌜
+        Placed (now text) v × Standing symbols (now places) v
+        × (at + length (pairBytes (imagesAt (now text) v (now places)) symbols) ≤ length (now listing)) ⌝ }
     ensures { λ r. ⌜ r ≡ at + length (pairBytes (imagesAt (now (text .entry)) v (now (places .entry))) symbols) ⌝ }
-    ensures { λ r. ⌜ now (listing .exit) ≡ written (now (listing .entry)) at (pairBytes (imagesAt (now (text .entry)) v (now (places .entry))) symbols) ⌝ }
+    ensures { λ r. ⌜
+        now (listing .exit) ≡ written (now (listing .entry)) at
+        (pairBytes (imagesAt (now (text .entry)) v (now (places .entry))) symbols) ⌝ }
 {
     let mut rest = symbols;
     let mut end = at;
@@ -60,9 +64,13 @@ fn write_found(
     listing: &mut [u8],
     at: usize,
 ) -> usize
-    requires { ⌜ Placed (now text) v × Small v × Standing symbols (now places) v × (at + length (bytesAll (foundRecords (now text) v symbols (now places))) ≤ length (now listing)) ⌝ }
+    requires { ⌜
+        Placed (now text) v × Small v × Standing symbols (now places) v
+        × (at + length (bytesAll (foundRecords (now text) v symbols (now places))) ≤ length (now listing)) ⌝ }
     ensures { λ r. ⌜ r ≡ at + length (bytesAll (foundRecords (now (text .entry)) v symbols (now (places .entry)))) ⌝ }
-    ensures { λ r. ⌜ now (listing .exit) ≡ written (now (listing .entry)) at (bytesAll (foundRecords (now (text .entry)) v symbols (now (places .entry)))) ⌝ }
+    ensures { λ r. ⌜
+        now (listing .exit) ≡ written (now (listing .entry)) at
+        (bytesAll (foundRecords (now (text .entry)) v symbols (now (places .entry)))) ⌝ }
 {
     let found = Record::Found {
         row: v.row as u8,
@@ -108,9 +116,14 @@ fn write_refused(
     listing: &mut [u8],
     at: usize,
 ) -> usize
-    requires { ⌜ Unmatched (now text) v (now pattern) × (base ≤ 16777216) × Older base (now forward) × Older base (now backward) × (at + length (bytesAll (entryAt (now text) (now pattern) v)) ≤ length (now listing)) ⌝ }
+    requires { ⌜
+        Unmatched (now text) v (now pattern) × (base ≤ 16777216) × Older base (now forward)
+        × Older base (now backward)
+        × (at + length (bytesAll (entryAt (now text) (now pattern) v)) ≤ length (now listing)) ⌝ }
     ensures { λ r. ⌜ r ≡ at + length (bytesAll (entryAt (now (text .entry)) (now (pattern .entry)) v)) ⌝ }
-    ensures { λ r. ⌜ now (listing .exit) ≡ written (now (listing .entry)) at (bytesAll (entryAt (now (text .entry)) (now (pattern .entry)) v)) ⌝ }
+    ensures { λ r. ⌜
+        now (listing .exit) ≡ written (now (listing .entry)) at
+        (bytesAll (entryAt (now (text .entry)) (now (pattern .entry)) v)) ⌝ }
     ensures { λ r. ⌜ Older (base + 256) (now (forward .exit)) × Older (base + 256) (now (backward .exit)) ⌝ }
 {
     let later = first_end(text, v, pattern, base, forward, backward);
@@ -134,9 +147,14 @@ pub fn write_window(
     listing: &mut [u8],
     at: usize,
 ) -> usize
-    requires { ⌜ Answered (now text) v (now pattern) flag symbols (now places) × (base ≤ 16777216) × Older base (now forward) × Older base (now backward) × (at + length (bytesAll (entryAt (now text) (now pattern) v)) ≤ length (now listing)) ⌝ }
+    requires { ⌜
+        Answered (now text) v (now pattern) flag symbols (now places) × (base ≤ 16777216) × Older base (now forward)
+        × Older base (now backward)
+        × (at + length (bytesAll (entryAt (now text) (now pattern) v)) ≤ length (now listing)) ⌝ }
     ensures { λ r. ⌜ r ≡ at + length (bytesAll (entryAt (now (text .entry)) (now (pattern .entry)) v)) ⌝ }
-    ensures { λ r. ⌜ now (listing .exit) ≡ written (now (listing .entry)) at (bytesAll (entryAt (now (text .entry)) (now (pattern .entry)) v)) ⌝ }
+    ensures { λ r. ⌜
+        now (listing .exit) ≡ written (now (listing .entry)) at
+        (bytesAll (entryAt (now (text .entry)) (now (pattern .entry)) v)) ⌝ }
     ensures { λ r. ⌜ Older (base + 256) (now (forward .exit)) × Older (base + 256) (now (backward .exit)) ⌝ }
 {
     if flag == 1 {

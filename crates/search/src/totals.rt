@@ -5,7 +5,7 @@ ghost use lib.ListN.{length};
 ghost use Rattle.grid.specs.Distinct.{distinct};
 ghost use Rattle.search.specs.Listing.{listingLength};
 ghost use Rattle.search.specs.Listing.Totals.{ones, others};
-use flags::flags::pattern_size;
+use sets::symbols::pattern_size;
 
 // The windows found and refused, and the length of their listing.
 pub struct Totals {

@@ -2,21 +2,22 @@
 ghost use mathlib.Core.Path.{_≡_};
 ghost use Prim.Native.Nat.{_≤_};
 ghost use lib.ListN.{length, replicate};
-ghost use Rattle.shapes.specs.Refusals.{bufferAfter};
-ghost use Rattle.listing.specs.Records.{written};
+ghost use Rattle.shapes.specs.Questions.{asked};
+ghost use Rattle.shapes.specs.Said.{overFront};
+ghost use Rattle.theory.specs.Written.{written};
 ghost use Rattle.search.specs.Listing.{searchListing, foundIn, refusedIn};
 ghost use Rattle.theory.specs.Older.{Older};
 ghost use Rattle.search.specs.Listing.Windows.{Flagged, SymbolPlaces, windowBytes};
 use crate::entries::write_window;
-use grid::counts::Shape;
 use listing::records::Record;
 use listing::records::write_record;
-use matching::compare::WindowPlace;
 use matching::places::no_places;
 use matching::places::places_of;
 use matching::windows::next_window;
 use sets::symbols::Symbols;
 use sets::symbols::symbols_of;
+use shapes::shapes::Shape;
+use shapes::windows::WindowPlace;
 
 // The records of all windows, from the listing's first byte on; the place after them.
 fn write_windows(
@@ -30,9 +31,14 @@ fn write_windows(
     backward: &mut [u32; 256],
     listing: &mut [u8],
 ) -> usize
-    requires { ⌜ Flagged (now text) (now pattern) s (now flags) × SymbolPlaces (now pattern) symbols (now places) × Older 256 (now forward) × Older 256 (now backward) × (length (windowBytes (now text) (now pattern) s) ≤ length (now listing)) ⌝ }
+    requires { ⌜
+        Flagged (now text) (now pattern) s (now flags) × SymbolPlaces (now pattern) symbols (now places)
+        × Older 256 (now forward) × Older 256 (now backward)
+        × (length (windowBytes (now text) (now pattern) s) ≤ length (now listing)) ⌝ }
     ensures { λ r. ⌜ r ≡ length (windowBytes (now (text .entry)) (now (pattern .entry)) s) ⌝ }
-    ensures { λ r. ⌜ now (listing .exit) ≡ written (now (listing .entry)) 0 (windowBytes (now (text .entry)) (now (pattern .entry)) s) ⌝ }
+    ensures { λ r. ⌜
+        now (listing .exit) ≡ written (now (listing .entry)) 0
+        (windowBytes (now (text .entry)) (now (pattern .entry)) s) ⌝ }
 {
     let across = s.columns + 1 - s.width;
     let n = (s.rows + 1 - s.height) * across;
@@ -85,8 +91,13 @@ pub fn write_listing(
     flags: &[u8],
     listing: &mut [u8],
 )
-    requires { ⌜ Flagged (now text) (now pattern) s (now flags) × (found ≡ foundIn (now text) (s .rows) (s .columns) (now pattern) (s .height) (s .width)) × (refused ≡ refusedIn (now text) (s .rows) (s .columns) (now pattern) (s .height) (s .width)) × (length (searchListing (now text) (s .rows) (s .columns) (now pattern) (s .height) (s .width)) ≤ length (now listing)) ⌝ }
-    ensures { λ r. ⌜ now (listing .exit) ≡ bufferAfter 0 (searchListing (now (text .entry)) (s .rows) (s .columns) (now (pattern .entry)) (s .height) (s .width)) (now (listing .entry)) ⌝ }
+    requires { ⌜
+        Flagged (now text) (now pattern) s (now flags) × (found ≡ foundIn (asked (now text) (now pattern) s))
+        × (refused ≡ refusedIn (asked (now text) (now pattern) s))
+        × (length (searchListing (asked (now text) (now pattern) s)) ≤ length (now listing)) ⌝ }
+    ensures { λ r. ⌜
+        now (listing .exit) ≡ overFront (searchListing (asked (now (text .entry)) (now (pattern .entry)) s))
+        (now (listing .entry)) ⌝ }
 {
     let symbols = symbols_of(pattern);
     let mut places = no_places();

@@ -6,6 +6,7 @@ ghost use lib.Dec.{eqb};
 ghost use lib.ListN.{length, take};
 ghost use Rattle.theory.specs.Test.{pick};
 ghost use Rattle.theory.specs.Count.{members};
+ghost use Rattle.grid.specs.Distinct.{distinct};
 ghost use Rattle.sets.specs.Symbols.{bitOf, wordOf, has, setOf, symbolSet, sizeOf, lowestOf, withSymbol, withoutSymbol};
 
 // Bit k of word i is 1 where symbol 64 i + k is in the set.
@@ -150,4 +151,12 @@ pub fn list_symbols(symbols: Symbols, listed: &mut [u8; 256]) -> usize
         a = rest.lowest();
     }
     k
+}
+
+// How many different symbols the pattern has.
+pub fn pattern_size(pattern: &[u8]) -> u16
+    requires { ⌜ length (now pattern) ≤ 65025 ⌝ }
+    ensures { λ r. ⌜ r ≡ distinct (now (pattern .entry)) ⌝ }
+{
+    symbols_of(pattern).size() as u16
 }

@@ -1,3 +1,5 @@
 pub mod Refusals
+pub mod Said
 pub mod Shapes
 pub mod Windows
+pub mod Questions

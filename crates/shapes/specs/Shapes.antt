@@ -1,14 +1,12 @@
--- Document 01's conditions on sides, cells and corners (2, 3, 4, 5), each a sealed test with one law that says what it tests, and the order
--- of 2, 3, 4 that all operations on texts share.
+-- Document 01's conditions on sides, cells and corners (2, 3, 4, 5), each a sealed test with one law that says what it tests.
 -- Assumes nothing.
-use mathlib.Core.Path.{_≡_, refl}
-use mathlib.Core.Bool.{Bool, true, false}
-use Prim.Native.Nat.{ℕ, _+_, _-_, _*_, _≤_, _<_}
+use mathlib.Core.Path.{_≡_}
+use mathlib.Core.Bool.{Bool}
+use Prim.Native.Nat.{ℕ, _+_, _-_, _*_, _≤_}
 use native.Mathlib.Nat.{mul-le-mul}
-use native.Mathlib.Omega.{arith}
 use lib.Dec.{eqb, leb}
-use Rattle.theory.specs.Test.{Tested, both, tested-iff, eq-tested, le-tested, both-tested, says-true, is-true}
-use Rattle.shapes.specs.Refusals.{unless, returnsMore, unless-plain}
+use Rattle.theory.specs.Test.{Tested, both, tested-iff, eq-tested, le-tested, both-tested}
+use Rattle.shapes.specs.declared.shapes.Shape.{Shape}
 
 -- a side is from 1 to 255
 pub record Side (n : ℕ) : Type 0 where
@@ -87,11 +85,6 @@ corners whole part = whole + 1 - part
 abbrev pub windows : ℕ → ℕ → ℕ → ℕ → ℕ
 windows rows columns height width = corners rows height * corners columns width
 
--- The order of 2, 3 and 4, which every operation on a text has, and then what comes after. What cells are given differs: a text alone, or a pattern too.
-pub shapeThen : Bool → ℕ → ℕ → ℕ → ℕ → ℕ → ℕ
-shapeThen cellsGood rows columns height width after =
-    unless (goodSides rows columns height width) 2 (unless cellsGood 3 (unless (fits rows columns height width) 4 after))
-
 -- the sides and the size of a window that are not refused by 2 or 4
 pub record Sized (rows columns height width : ℕ) : Type 0 where
   pub sides : Sides rows columns height width
@@ -102,100 +95,17 @@ pub record Shaped (cells rows columns height width : ℕ) : Type 0 where
   pub sized : Sized rows columns height width
   pub cells-is : cells ≡ rows * columns
 
--- ---- the chain, by its three tests
+-- the sides of a text of that many cells, and of a window in it, that were not refused
+abbrev pub ShapeOf : Shape → ℕ → Type 0
+ShapeOf s cells = Shaped cells (s .rows) (s .columns) (s .height) (s .width)
 
--- a chain that ends in 0 passed each of its tests
-pub one-passed : (a : Bool) (m after : ℕ) → 0 < m → unless a m after ≡ 0 → (a ≡ true) × (after ≡ 0)
-one-passed true m after h e = (refl, e)
-one-passed false m after h e = absurd (omega arith)
+-- how many windows there are across
+abbrev pub across : Shape → ℕ
+across s = corners (s .columns) (s .width)
 
-pub two-passed : (a b : Bool) (m n : ℕ) → 0 < m → 0 < n → unless a m (unless b n 0) ≡ 0 → (a ≡ true) × (b ≡ true)
-two-passed a b m n h k e =
-    let p = one-passed a m (unless b n 0) h e in
-    (p .0, one-passed b n 0 k (p .1) .0)
-
-three-refused : (a b c : Bool) (after : ℕ) → 0 < unless a 2 (unless b 3 (unless c 4 0)) → unless a 2 (unless b 3 (unless c 4 after)) ≡ unless a 2 (unless b 3 (unless c 4 0))
-three-refused true true true after h = absurd (omega arith)
-three-refused true true false after h = refl
-three-refused true false c after h = refl
-three-refused false b c after h = refl
-
-module _ (cellsGood : Bool) (rows columns height width : ℕ) where
-  -- each number where its test fails and the earlier ones pass
-  module _ (after : ℕ) where
-    pub sides-refused : goodSides rows columns height width ≡ false → shapeThen cellsGood rows columns height width after ≡ 2
-    unfolding shapeThen
-    sides-refused a = rw a
-
-    pub cells-refused : goodSides rows columns height width ≡ true → cellsGood ≡ false → shapeThen cellsGood rows columns height width after ≡ 3
-    unfolding shapeThen
-    cells-refused a b = rw (a, b)
-
-    pub size-refused : goodSides rows columns height width ≡ true → cellsGood ≡ true → fits rows columns height width ≡ false
-        → shapeThen cellsGood rows columns height width after ≡ 4
-    unfolding shapeThen
-    size-refused a b c = rw (a, b, c)
-
-    pub none-refused : goodSides rows columns height width ≡ true → cellsGood ≡ true → fits rows columns height width ≡ true
-        → shapeThen cellsGood rows columns height width after ≡ after
-    unfolding shapeThen
-    none-refused a b c = rw (a, b, c)
-
-  -- nothing of 2, 3, 4 is refused exactly if sides, cells and size are good, and then what comes after decides
-  pub shape-passed : shapeThen cellsGood rows columns height width 0 ≡ 0 → Sized rows columns height width × (cellsGood ≡ true)
-  unfolding shapeThen
-  shape-passed e =
-      let p = one-passed (goodSides rows columns height width) 2 _ (omega arith) e in
-      let q = two-passed cellsGood (fits rows columns height width) 3 4 (omega arith) (omega arith) (p .1) in
-      (record { sides = says-true (good-sides rows columns height width) (p .0); fitting = says-true (fits-tested rows columns height width) (q .1) }, q .0)
-
-  pub shape-passes : Sized rows columns height width → cellsGood ≡ true → (after : ℕ) → shapeThen cellsGood rows columns height width after ≡ after
-  unfolding shapeThen
-  shape-passes s e after = rw (is-true (good-sides rows columns height width) (s .sides), e, is-true (fits-tested rows columns height width) (s .fitting))
-
-  -- what is refused is refused whatever comes after
-  pub shape-refused : (after : ℕ) → 0 < shapeThen cellsGood rows columns height width 0
-      → shapeThen cellsGood rows columns height width after ≡ shapeThen cellsGood rows columns height width 0
-  unfolding shapeThen
-  shape-refused after h = three-refused (goodSides rows columns height width) cellsGood (fits rows columns height width) after h
-
-  -- none of them returns anything besides its number
-  pub shape-plain : (after : ℕ) → returnsMore after ≡ false → returnsMore (shapeThen cellsGood rows columns height width after) ≡ false
-  unfolding shapeThen
-  shape-plain after h =
-      unless-plain (goodSides rows columns height width) 2 (unless cellsGood 3 (unless (fits rows columns height width) 4 after)) refl
-      (unless-plain cellsGood 3 (unless (fits rows columns height width) 4 after) refl (unless-plain (fits rows columns height width) 4 after refl h))
-
-pub shape-then-zero : (cellsGood : Bool) (rows columns height width after : ℕ) → shapeThen cellsGood rows columns height width after ≡ 0
-    → (shapeThen cellsGood rows columns height width 0 ≡ 0) × (after ≡ 0)
-unfolding shapeThen
-shape-then-zero cellsGood rows columns height width after e =
-    let p = one-passed (goodSides rows columns height width) 2 _ (omega arith) e in
-    let q = one-passed cellsGood 3 _ (omega arith) (p .1) in
-    let r = one-passed (fits rows columns height width) 4 after (omega arith) (q .1) in
-    (rw (p .0, q .0, r .0), r .1)
-
--- no number of the chain is above 4 and above what comes after
-pub shape-number-le : (cellsGood : Bool) (rows columns height width after bound : ℕ) → 4 ≤ bound → after ≤ bound → shapeThen cellsGood rows columns height width after ≤ bound
-unfolding shapeThen
-shape-number-le cellsGood rows columns height width after bound h k = go (goodSides rows columns height width) cellsGood (fits rows columns height width)
-  where
-    go : (a b c : Bool) → unless a 2 (unless b 3 (unless c 4 after)) ≤ bound
-    go true true true = k
-    go true true false = h
-    go true false c = omega arith
-    go false b c = omega arith
-
--- of a text alone
-pub text-passed : (cells rows columns height width : ℕ) → shapeThen (goodCells cells rows columns) rows columns height width 0 ≡ 0 → Shaped cells rows columns height width
-text-passed cells rows columns height width e =
-    let p = shape-passed (goodCells cells rows columns) rows columns height width e in
-    record { sized = p .0; cells-is = says-true (good-cells cells rows columns) (p .1) }
-
-pub text-passes : (cells rows columns height width : ℕ) → Shaped cells rows columns height width → (after : ℕ)
-    → shapeThen (goodCells cells rows columns) rows columns height width after ≡ after
-text-passes cells rows columns height width s after =
-    shape-passes (goodCells cells rows columns) rows columns height width (s .sized) (is-true (good-cells cells rows columns) (s .cells-is)) after
+-- and how many down
+abbrev pub down : Shape → ℕ
+down s = corners (s .rows) (s .height)
 
 -- a product of two small numbers is small
 pub product-le : (a b m n : ℕ) → a ≤ m → b ≤ n → a * b ≤ m * n

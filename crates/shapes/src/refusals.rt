@@ -1,9 +1,10 @@
 // What an operation refuses. specs/Refusals.antt gives document 01's number and value of each case.
 ghost use mathlib.Core.Path.{_≡_};
-ghost use Rattle.shapes.specs.Refusals.{numberOf, outcomeNumber};
+ghost use Rattle.shapes.specs.Refusals.{reasonNumber, numberOf};
+ghost use Rattle.shapes.specs.Said.{saidNumber, outcomeSaid};
 
-// By what an input, or a state, is refused.
-pub enum Refusal {
+// Why an input, or a state, is refused where nothing is returned besides the number.
+pub enum Reason {
     // program: fewer than 4 size bytes
     SizesMissing,
     // a side is 0 or above 255
@@ -14,24 +15,30 @@ pub enum Refusal {
     TooLarge,
     // corner or strip column beyond R − r or C − c
     CornerOutside,
-    // listing of wrong form; the place of the record
-    ListingForm(usize),
-    // listing with a false statement; the place of the record
-    ListingFalse(usize),
     // program: text or pattern of more than 16,384 cells
     TooManyCells,
     // links buffer shorter than R × c
     LinksBufferShort,
     // flags or counts buffer shorter than the number of windows
     WindowBufferShort,
-    // listing buffer shorter than the listing; the length needed
-    ListingBufferShort(usize),
     // the pattern symbol already has another image
     HasOtherImage,
     // the text symbol is already another's image
     HasOtherPreimage,
     // a bijection whose columns disagree or hold a number above 256
     ColumnsDisagree,
+}
+
+// By what an input, or a state, is refused.
+pub enum Refusal {
+    // with nothing but its number
+    Plain(Reason),
+    // listing of wrong form; the place of the record
+    ListingForm(usize),
+    // listing with a false statement; the place of the record
+    ListingFalse(usize),
+    // listing buffer shorter than the listing; the length needed
+    ListingBufferShort(usize),
     // cursor at or past the end of the listing; the cursor's place
     CursorSpent(usize),
 }
@@ -42,32 +49,41 @@ pub enum Outcome {
     Refused(Refusal),
 }
 
+// Document 01's number of a reason.
+pub fn reason_number(why: Reason) -> u8
+    ensures { λ r. ⌜ r ≡ reasonNumber why ⌝ }
+{
+    match why {
+        Reason::SizesMissing => 1,
+        Reason::SideRange => 2,
+        Reason::CellCount => 3,
+        Reason::TooLarge => 4,
+        Reason::CornerOutside => 5,
+        Reason::TooManyCells => 8,
+        Reason::LinksBufferShort => 9,
+        Reason::WindowBufferShort => 10,
+        Reason::HasOtherImage => 12,
+        Reason::HasOtherPreimage => 13,
+        Reason::ColumnsDisagree => 14,
+    }
+}
+
 // Document 01's number of a refusal.
 pub fn refusal_number(why: Refusal) -> u8
     ensures { λ r. ⌜ r ≡ numberOf why ⌝ }
 {
     match why {
-        Refusal::SizesMissing => 1,
-        Refusal::SideRange => 2,
-        Refusal::CellCount => 3,
-        Refusal::TooLarge => 4,
-        Refusal::CornerOutside => 5,
+        Refusal::Plain(reason) => reason_number(reason),
         Refusal::ListingForm(_) => 6,
         Refusal::ListingFalse(_) => 7,
-        Refusal::TooManyCells => 8,
-        Refusal::LinksBufferShort => 9,
-        Refusal::WindowBufferShort => 10,
         Refusal::ListingBufferShort(_) => 11,
-        Refusal::HasOtherImage => 12,
-        Refusal::HasOtherPreimage => 13,
-        Refusal::ColumnsDisagree => 14,
         Refusal::CursorSpent(_) => 15,
     }
 }
 
 // The number of an outcome: 0 where it is accepted.
 pub fn outcome_number(outcome: Outcome) -> u8
-    ensures { λ r. ⌜ r ≡ outcomeNumber outcome ⌝ }
+    ensures { λ r. ⌜ r ≡ saidNumber (outcomeSaid outcome) ⌝ }
 {
     match outcome {
         Outcome::Accepted => 0,

@@ -2,11 +2,20 @@
 ghost use mathlib.Core.Path.{_≡_};
 ghost use Prim.Native.Nat.{_+_};
 ghost use lib.Dec.{leb};
-ghost use Rattle.theory.specs.Test.{both};
-ghost use Rattle.shapes.specs.Refusals.{outcomeNumber};
-ghost use Rattle.shapes.specs.Shapes.{goodSide, goodSides, goodCells, fits, cornerInside, shapeThen};
+ghost use Rattle.shapes.specs.Shapes.{goodSide, goodSides, goodCells, fits, cornerInside};
+ghost use Rattle.shapes.specs.Said.{outcomeSaid};
+ghost use Rattle.shapes.specs.Questions.{gridOf, asked, sidesSaid, gridSaid, cellsSaid, sizeSaid, shapeSaid, textSaid};
 use crate::refusals::Outcome;
+use crate::refusals::Reason;
 use crate::refusals::Refusal;
+
+// The sides of a text and of a window in it.
+pub struct Shape {
+    pub rows: usize,
+    pub columns: usize,
+    pub height: usize,
+    pub width: usize,
+}
 
 // A side is from 1 to 255.
 fn good_side(n: usize) -> bool
@@ -81,42 +90,73 @@ pub fn corner_inside(
     part_inside(columns, width, column)
 }
 
-// 2, 3 and 4 in this order. Whether the cells are right in number is the caller's to say: of a text, or of a text and a pattern.
-pub fn shape_outcome(
-    cells_good: bool,
-    rows: usize,
-    columns: usize,
-    height: usize,
-    width: usize,
-) -> Outcome
-    ensures { λ r. ⌜ outcomeNumber r ≡ shapeThen «cells_good» rows columns height width 0 ⌝ }
+// 2: a side is 0 or above 255.
+pub fn sides_outcome(s: Shape) -> Outcome
+    ensures { λ r. ⌜ outcomeSaid r ≡ sidesSaid s ⌝ }
 {
-    if !good_sides(rows, columns, height, width) {
-        return Outcome::Refused(Refusal::SideRange);
-    }
-    if !cells_good {
-        return Outcome::Refused(Refusal::CellCount);
-    }
-    if !window_fits(rows, columns, height, width) {
-        return Outcome::Refused(Refusal::TooLarge);
+    if !good_sides(s.rows, s.columns, s.height, s.width) {
+        return Outcome::Refused(Refusal::Plain(Reason::SideRange));
     }
     Outcome::Accepted
 }
 
-// The same where a pattern is given too: both it and the text have the cells that their sides say.
-pub fn pattern_outcome(
-    cells: usize,
-    rows: usize,
-    columns: usize,
-    pattern_cells: usize,
-    height: usize,
-    width: usize,
-) -> Outcome
-    ensures { λ r. ⌜ outcomeNumber r ≡ shapeThen (both (goodCells cells rows columns) (goodCells «pattern_cells» height width)) rows columns height width 0 ⌝ }
+// 3: cells given are not rows × columns in number.
+pub fn grid_outcome(cells: &[u8], rows: usize, columns: usize) -> Outcome
+    ensures { λ r. ⌜ outcomeSaid r ≡ gridSaid (gridOf (now (cells .entry)) rows columns) ⌝ }
 {
-    if good_cells(cells, rows, columns) {
-        let good = good_cells(pattern_cells, height, width);
-        return shape_outcome(good, rows, columns, height, width);
+    if !good_cells(cells.len(), rows, columns) {
+        return Outcome::Refused(Refusal::Plain(Reason::CellCount));
     }
-    shape_outcome(false, rows, columns, height, width)
+    Outcome::Accepted
+}
+
+// The same of a text, then of a pattern.
+pub fn cells_outcome(text: &[u8], pattern: &[u8], s: Shape) -> Outcome
+    ensures { λ r. ⌜ outcomeSaid r ≡ cellsSaid (asked (now (text .entry)) (now (pattern .entry)) s) ⌝ }
+{
+    let outcome = grid_outcome(text, s.rows, s.columns);
+    let Outcome::Accepted = outcome else {
+        return outcome;
+    };
+    grid_outcome(pattern, s.height, s.width)
+}
+
+// 4: the pattern is taller or wider than the text.
+pub fn size_outcome(s: Shape) -> Outcome
+    ensures { λ r. ⌜ outcomeSaid r ≡ sizeSaid s ⌝ }
+{
+    if !window_fits(s.rows, s.columns, s.height, s.width) {
+        return Outcome::Refused(Refusal::Plain(Reason::TooLarge));
+    }
+    Outcome::Accepted
+}
+
+// 2, 3 and 4 in this order, of a text and a pattern.
+pub fn question_outcome(text: &[u8], pattern: &[u8], s: Shape) -> Outcome
+    ensures { λ r. ⌜ outcomeSaid r ≡ shapeSaid (asked (now (text .entry)) (now (pattern .entry)) s) ⌝ }
+{
+    let sides = sides_outcome(s);
+    let Outcome::Accepted = sides else {
+        return sides;
+    };
+    let cells = cells_outcome(text, pattern, s);
+    let Outcome::Accepted = cells else {
+        return cells;
+    };
+    size_outcome(s)
+}
+
+// The same of a text alone, and the sides of a window in it.
+pub fn text_outcome(text: &[u8], s: Shape) -> Outcome
+    ensures { λ r. ⌜ outcomeSaid r ≡ textSaid (now (text .entry)) s ⌝ }
+{
+    let sides = sides_outcome(s);
+    let Outcome::Accepted = sides else {
+        return sides;
+    };
+    let cells = grid_outcome(text, s.rows, s.columns);
+    let Outcome::Accepted = cells else {
+        return cells;
+    };
+    size_outcome(s)
 }

@@ -8,6 +8,15 @@ pub enum Cell {
     PastEnd,
 }
 
+// A window of a text: the text's row width, the window's corner and its sides.
+pub struct WindowPlace {
+    pub columns: usize,
+    pub row: usize,
+    pub column: usize,
+    pub height: usize,
+    pub width: usize,
+}
+
 // The symbol in cell (i, j) of the window whose corner is (row, column).
 pub fn window_cell(text: &[u8], row_width: u8, row: u8, column: u8, i: u8, j: u8) -> Cell
     ensures { λ r. ⌜ r ≡ cellOf (now (text .entry)) «row_width» row column i j ⌝ }

@@ -8,3 +8,5 @@ pub mod Store
 pub mod Older
 pub mod Match
 pub mod Columns
+pub mod Written
+pub mod Pieces

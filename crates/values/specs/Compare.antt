@@ -1,15 +1,14 @@
 -- How the answer to the one-window question passes to Rust and C: the bijection as its two columns, a mismatch as three numbers.
 -- Assumes nothing.
-use mathlib.Core.Path.{_≡_, refl, _∙_, ap}
-use Prim.Native.Nat.{ℕ, zero, suc, _*_}
+use mathlib.Core.Path.{_≡_, refl, sym, _∙_, ap}
+use Prim.Native.Nat.{ℕ}
 use mathlib.Core.List.{List, [], _∷_}
 use native.Mathlib.Omega.{arith}
-use lib.ListN.{length}
-use Rattle.theory.specs.Match.{Answer, matched, mismatched, answerOf}
-use Rattle.shapes.specs.Windows.{windowAt}
-use Rattle.mapping.specs.Bijections.{bijectionAfter}
-use Rattle.matching.specs.Compare.{patternAt, verdictValues, verdictOf, valuesAfter, windowNumber, bijectionBeside, Answers}
-use Rattle.matching.specs.Theorems.{verdict-right}
+use Rattle.shapes.specs.Refusals.{number-positive}
+use Rattle.shapes.specs.Said.{Said, accepts, refuses, _then_, saidNumber, saidValues, not-accepted}
+use Rattle.shapes.specs.Questions.{Question}
+use Rattle.matching.specs.Compare.{verdictSaid, verdictOf, answerIn, bijectionIn, placeSaid, windowSaid, Told, told, oneWindowOf}
+use Rattle.mapping.specs.Bijections.{emptyBijection, bijectionBy}
 use Rattle.matching.specs.declared.compare.WindowAnswer.{WindowAnswer}
 use Rattle.matching.specs.declared.compare.Verdict.{Verdict}
 use Rattle.matching.specs.declared.compare.Verdict.the-variants.{Match, Mismatch, Refused}
@@ -23,66 +22,66 @@ threeOf (kind ∷ cells) = kind ∷ cells
 -- the same of a verdict
 abbrev pub mismatchOf : Verdict → List ℕ
 mismatchOf Match = 0 ∷ 0 ∷ 0 ∷ []
-mismatchOf (Mismatch alike earlier later) = verdictValues (Mismatch alike earlier later)
+mismatchOf (Mismatch alike earlier later) = saidValues (verdictSaid (Mismatch alike earlier later))
 mismatchOf (Refused why) = 0 ∷ 0 ∷ 0 ∷ []
 
-mismatch-values : (a : Answer) → mismatchOf (verdictOf a) ≡ threeOf (verdictValues (verdictOf a))
-mismatch-values matched = refl
-mismatch-values (mismatched s q p) = refl
-
--- what a call that ends with that number leaves in a lent list: accepted, the new values; refused, the old ones
-abbrev pub listAfter : ℕ → List ℕ → List ℕ → List ℕ
-listAfter zero new old = new
-listAfter (suc number) new old = old
+-- what a call that says so leaves in a lent list: accepted, its values as three numbers; refused, what stood there
+abbrev pub threeBy : Said → List ℕ → List ℕ
+threeBy (accepts values) old = threeOf values
+threeBy (refuses number values) old = old
 
 -- the mismatch in the window at that corner, where something else stood
-unfoldable pub windowMismatch : List ℕ → ℕ → ℕ → List ℕ → ℕ → ℕ → ℕ → ℕ → List ℕ → List ℕ
-windowMismatch text rows columns pattern height width row column old =
-    listAfter (windowNumber (length text) rows columns (length pattern) height width row column)
-    (threeOf (valuesAfter 0 (answerOf (patternAt pattern) (windowAt text columns row column width) (height * width)))) old
+unfoldable pub windowMismatch : Question → ℕ → ℕ → List ℕ → List ℕ
+windowMismatch q row column old = threeBy (windowSaid q row column) old
 
 -- the bijection of the pattern's symbols with those of the window at that corner, where another stood
-unfoldable pub windowBijection : List ℕ → ℕ → ℕ → List ℕ → ℕ → ℕ → ℕ → ℕ → Bijection → Bijection
-windowBijection text rows columns pattern height width row column old =
-    bijectionAfter (windowNumber (length text) rows columns (length pattern) height width row column)
-    (bijectionBeside 0 (patternAt pattern) (windowAt text columns row column width) (height * width)) old
+unfoldable pub windowBijection : Question → ℕ → ℕ → Bijection → Bijection
+windowBijection q row column old = bijectionBy (windowSaid q row column) (bijectionIn q row column) old
 
-bijection-kept : (k : ℕ) (new old : Bijection) → (k ≡ 0 → ⊥) → old ≡ bijectionAfter k new old
-bijection-kept zero new old n = absurd (n refl)
-bijection-kept (suc k) new old n = refl
+-- a verdict's number is 0 exactly where it is accepted
+refused-kept : (v : Verdict) (said : Said) → verdictSaid v ≡ said → (saidNumber (verdictSaid v) ≡ 0 → ⊥) → (new old : Bijection) (l : List ℕ)
+    → (old ≡ bijectionBy said new old) × (l ≡ threeBy said l)
+refused-kept Match said e n new old l = absurd (n refl)
+refused-kept (Mismatch alike earlier later) said e n new old l = absurd (n refl)
+refused-kept (Refused why) said e n new old l = (rw (← e), rw (← e))
 
-list-kept : (k : ℕ) (new old : List ℕ) → (k ≡ 0 → ⊥) → old ≡ listAfter k new old
-list-kept zero new old n = absurd (n refl)
-list-kept (suc k) new old n = refl
+accepted-new : (v : Verdict) (said : Said) → verdictSaid v ≡ said → saidNumber (verdictSaid v) ≡ 0 → (new old : Bijection) (l : List ℕ)
+    → (new ≡ bijectionBy said new old) × (mismatchOf v ≡ threeBy said l)
+accepted-new Match said e z new old l = (rw (← e), rw (← e))
+accepted-new (Mismatch alike earlier later) said e z new old l = (rw (← e), rw (← e))
+accepted-new (Refused why) said e z new old l = absurd (omega (arith, number-positive why))
 
-bijection-new : (k : ℕ) (m w : ℕ → ℕ) (n : ℕ) (b old : Bijection) → k ≡ 0 → b ≡ bijectionBeside k m w n → b ≡ bijectionAfter k (bijectionBeside 0 m w n) old
-bijection-new zero m w n b old z e = e
-bijection-new (suc k) m w n b old z e = absurd (omega arith)
+-- beside an accepted answer stands its own bijection
+own : (v : Verdict) (place answer : Said) (b : Bijection) → verdictSaid v ≡ place then answer → saidNumber (verdictSaid v) ≡ 0
+    → bijectionBy place b emptyBijection ≡ b
+own v (accepts values) answer b e z = refl
+own v (refuses number values) answer b e z = go v e z
+  where
+    go : (v : Verdict) → verdictSaid v ≡ refuses number values → saidNumber (verdictSaid v) ≡ 0 → bijectionBy (refuses number values) b emptyBijection ≡ b
+    go Match e z = absurd (not-accepted number values [] (sym e))
+    go (Mismatch alike earlier later) e z = absurd (not-accepted number values _ (sym e))
+    go (Refused why) e z = absurd (omega (arith, number-positive why))
 
-list-new : (k : ℕ) (l new old : List ℕ) → k ≡ 0 → l ≡ new → l ≡ listAfter k new old
-list-new zero l new old z e = e
-list-new (suc k) l new old z e = absurd (omega arith)
+module _ (q : Question) (row column : ℕ) (r : WindowAnswer) (answers : told r ≡ oneWindowOf q row column) where
+  said-same : verdictSaid (r .verdict) ≡ windowSaid q row column
+  unfolding oneWindowOf
+  said-same = ap (λ (t : Told). t .said) answers
 
-module _ (text : List ℕ) (rows columns : ℕ) (pattern : List ℕ) (height width row column : ℕ) where
+  pub window-number : saidNumber (verdictSaid (r .verdict)) ≡ saidNumber (windowSaid q row column)
+  window-number = ap saidNumber said-same
+
   -- refused
-  pub window-bijection-kept : (old : Bijection) → (windowNumber (length text) rows columns (length pattern) height width row column ≡ 0 → ⊥)
-      → old ≡ windowBijection text rows columns pattern height width row column old
-  unfolding windowBijection
-  window-bijection-kept old n = bijection-kept _ _ old n
-
-  pub window-mismatch-kept : (old : List ℕ) → (windowNumber (length text) rows columns (length pattern) height width row column ≡ 0 → ⊥)
-      → old ≡ windowMismatch text rows columns pattern height width row column old
-  unfolding windowMismatch
-  window-mismatch-kept old n = list-kept _ _ old n
+  pub window-kept : (saidNumber (verdictSaid (r .verdict)) ≡ 0 → ⊥) → (old : Bijection) (l : List ℕ)
+      → (old ≡ windowBijection q row column old) × (l ≡ windowMismatch q row column l)
+  unfolding windowBijection windowMismatch
+  window-kept n old l = refused-kept (r .verdict) (windowSaid q row column) said-same n (bijectionIn q row column) old l
 
   -- accepted
-  module _ (accepted : windowNumber (length text) rows columns (length pattern) height width row column ≡ 0) (r : WindowAnswer)
-      (answers : Answers text rows columns pattern height width row column r) where
-    pub window-bijection-new : (b old : Bijection) → b ≡ r .bijection → b ≡ windowBijection text rows columns pattern height width row column old
-    unfolding windowBijection
-    window-bijection-new b old e = bijection-new _ _ _ _ b old accepted (e ∙ answers .bijection)
-
-    pub window-mismatch-new : (l old : List ℕ) → l ≡ mismatchOf (r .verdict) → l ≡ windowMismatch text rows columns pattern height width row column old
-    unfolding windowMismatch
-    window-mismatch-new l old e =
-        list-new _ l _ old accepted (e ∙ ap mismatchOf (verdict-right text rows columns pattern height width row column r answers accepted) ∙ mismatch-values (answerOf (patternAt pattern) (windowAt text columns row column width) (height * width)))
+  pub window-new : saidNumber (verdictSaid (r .verdict)) ≡ 0 → (b old : Bijection) (l m : List ℕ) → b ≡ r .bijection → m ≡ mismatchOf (r .verdict)
+      → (b ≡ windowBijection q row column old) × (m ≡ windowMismatch q row column l)
+  unfolding windowBijection windowMismatch oneWindowOf windowSaid
+  window-new z b old l m e f =
+      let t = accepted-new (r .verdict) (windowSaid q row column) said-same z (bijectionIn q row column) old l in (
+        e ∙ ap (λ (t : Told). t .bijection) answers ∙ own (r .verdict) (placeSaid q row column) (verdictSaid (verdictOf (answerIn q row column))) (bijectionIn q row column) said-same z ∙ t .0,
+        f ∙ t .1,
+      )

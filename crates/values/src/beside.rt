@@ -15,20 +15,10 @@ pub fn value_beside(why: Refusal) -> Value
     ensures { λ r. ⌜ valueList r ≡ valuesOf why ⌝ }
 {
     match why {
-        Refusal::SizesMissing => Value::Nothing,
-        Refusal::SideRange => Value::Nothing,
-        Refusal::CellCount => Value::Nothing,
-        Refusal::TooLarge => Value::Nothing,
-        Refusal::CornerOutside => Value::Nothing,
+        Refusal::Plain(_) => Value::Nothing,
         Refusal::ListingForm(at) => Value::Number(at),
         Refusal::ListingFalse(at) => Value::Number(at),
-        Refusal::TooManyCells => Value::Nothing,
-        Refusal::LinksBufferShort => Value::Nothing,
-        Refusal::WindowBufferShort => Value::Nothing,
         Refusal::ListingBufferShort(needed) => Value::Number(needed),
-        Refusal::HasOtherImage => Value::Nothing,
-        Refusal::HasOtherPreimage => Value::Nothing,
-        Refusal::ColumnsDisagree => Value::Nothing,
         Refusal::CursorSpent(at) => Value::Number(at),
     }
 }

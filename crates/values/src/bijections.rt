@@ -1,6 +1,7 @@
 // Bijections as two columns, in which 256 stands for no image and no preimage.
 ghost use mathlib.Core.Path.{_≡_};
-ghost use Rattle.shapes.specs.Refusals.{outcomeNumber};
+ghost use Rattle.shapes.specs.Said.{saidNumber};
+ghost use Rattle.mapping.specs.Bijections.{renamed};
 ghost use Rattle.values.specs.Bijections.{bijectionIn};
 use mapping::bijections::Bijection;
 use mapping::bijections::BijectionAnswer;
@@ -32,8 +33,8 @@ pub fn write_answer(
     forward: &mut [u16; 256],
     backward: &mut [u16; 256],
 ) -> u8
-    ensures { λ r. ⌜ r ≡ outcomeNumber (answer .outcome) ⌝ }
-    ensures { λ r. ⌜ bijectionIn (now (forward .exit)) (now (backward .exit)) ≡ answer .bijection ⌝ }
+    ensures { λ r. ⌜ r ≡ saidNumber (renamed answer .said) ⌝ }
+    ensures { λ r. ⌜ bijectionIn (now (forward .exit)) (now (backward .exit)) ≡ renamed answer .bijection ⌝ }
 {
     let b = answer.bijection;
     let outcome = answer.outcome;

@@ -1,8 +1,9 @@
 // What the check answers, in numbers.
 ghost use mathlib.Core.Path.{_≡_};
 ghost use Rattle.shapes.specs.Refusals.{valuesOf};
-ghost use Rattle.verify.specs.Check.{checkedNumber};
-ghost use Rattle.values.specs.Checking.{placeBeside, checkedTotals};
+ghost use Rattle.shapes.specs.Said.{saidNumber};
+ghost use Rattle.verify.specs.Check.{checkedSaid};
+ghost use Rattle.values.specs.Checking.{placeBeside, countsBy};
 use crate::beside::Value;
 use crate::beside::value_beside;
 use shapes::refusals::Refusal;
@@ -11,7 +12,7 @@ use verify::check::Checked;
 
 // The number of an answer.
 pub fn checked_number(answer: Checked) -> u8
-    ensures { λ r. ⌜ r ≡ checkedNumber answer ⌝ }
+    ensures { λ r. ⌜ r ≡ saidNumber (checkedSaid answer) ⌝ }
 {
     match answer {
         Checked::Kept {
@@ -35,7 +36,7 @@ pub fn place_beside(why: Refusal, old: [usize; 2]) -> [usize; 2]
 
 // The totals of an answer: found and refused.
 pub fn checked_totals(answer: Checked, old: [usize; 2]) -> [usize; 2]
-    ensures { λ r. ⌜ r ≡ checkedTotals answer old ⌝ }
+    ensures { λ r. ⌜ r ≡ countsBy (checkedSaid answer) old ⌝ }
 {
     match answer {
         Checked::Kept { found, refused } => [found as usize, refused as usize],

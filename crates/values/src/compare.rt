@@ -1,6 +1,7 @@
 // What the one-window question answers, in numbers.
 ghost use mathlib.Core.Path.{_≡_};
-ghost use Rattle.matching.specs.Compare.{verdictNumber, verdictValues};
+ghost use Rattle.shapes.specs.Said.{saidNumber, saidValues};
+ghost use Rattle.matching.specs.Compare.{verdictSaid};
 ghost use Rattle.matching.specs.declared.compare.Verdict.the-variants.{Mismatch};
 ghost use Rattle.values.specs.Compare.{mismatchOf};
 use matching::compare::Verdict;
@@ -8,7 +9,7 @@ use shapes::refusals::refusal_number;
 
 // The number of a verdict.
 pub fn verdict_number(verdict: Verdict) -> u8
-    ensures { λ r. ⌜ r ≡ verdictNumber verdict ⌝ }
+    ensures { λ r. ⌜ r ≡ saidNumber (verdictSaid verdict) ⌝ }
 {
     match verdict {
         Verdict::Match => 0,
@@ -23,7 +24,7 @@ pub fn verdict_number(verdict: Verdict) -> u8
 
 // The values of a mismatch: the kind of its record, 3 or 4 by the side alike, and its cells.
 pub fn mismatch_values(alike_in_pattern: bool, earlier: usize, later: usize) -> [usize; 3]
-    ensures { λ r. ⌜ r ≡ verdictValues (Mismatch «alike_in_pattern» earlier later) ⌝ }
+    ensures { λ r. ⌜ r ≡ saidValues (verdictSaid (Mismatch «alike_in_pattern» earlier later)) ⌝ }
 {
     if alike_in_pattern {
         return [3, earlier, later];

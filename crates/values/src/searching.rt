@@ -2,8 +2,9 @@
 ghost use mathlib.Core.Path.{_≡_};
 ghost use lib.ListN.{length};
 ghost use Rattle.shapes.specs.Refusals.{valuesOf};
-ghost use Rattle.search.specs.Search.{searchedNumber};
-ghost use Rattle.values.specs.Searching.{totalsBeside, totalsIn};
+ghost use Rattle.shapes.specs.Said.{saidNumber};
+ghost use Rattle.search.specs.Search.{searchedSaid};
+ghost use Rattle.values.specs.Searching.{totalsBeside, totalsBy};
 use crate::beside::Value;
 use crate::beside::value_beside;
 use search::search::Searched;
@@ -12,7 +13,7 @@ use shapes::refusals::refusal_number;
 
 // The number of an answer.
 pub fn searched_number(answer: Searched) -> u8
-    ensures { λ r. ⌜ r ≡ searchedNumber answer ⌝ }
+    ensures { λ r. ⌜ r ≡ saidNumber (searchedSaid answer) ⌝ }
 {
     match answer {
         Searched::Listed {
@@ -37,7 +38,7 @@ pub fn totals_beside(why: Refusal, old: [usize; 3]) -> [usize; 3]
 
 // The totals of an answer: found, refused and the length.
 pub fn totals_in(answer: Searched, old: [usize; 3]) -> [usize; 3]
-    ensures { λ r. ⌜ r ≡ totalsIn answer old ⌝ }
+    ensures { λ r. ⌜ r ≡ totalsBy (searchedSaid answer) old ⌝ }
 {
     match answer {
         Searched::Listed {

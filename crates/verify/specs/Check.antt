@@ -2,7 +2,6 @@
 -- The first bad record stops it, with 6 where its form is wrong and 7 where it is false. What a listing must be for the walk to reach the end is said
 -- without a walk in `Rules`.
 -- Assumes nothing.
-use mathlib.Core.Path.{_≡_}
 use mathlib.Core.Bool.{Bool, true, false, not}
 use mathlib.Core.List.{List, [], _∷_}
 use Prim.Native.Nat.{ℕ, zero, suc, _+_, _*_}
@@ -10,14 +9,13 @@ use lib.Dec.{eqb}
 use lib.ListN.{length}
 use Rattle.theory.specs.Test.{pick, both}
 use Rattle.theory.specs.Count.{count}
-use Rattle.shapes.specs.Refusals.{numberOf, valuesOf}
-use Rattle.shapes.specs.Shapes.{shapeThen, goodCells, windows}
+use Rattle.shapes.specs.Said.{Said, accepts, _then_, refusalSaid}
+use Rattle.shapes.specs.Questions.{Question, windowsOf, shapeSaid}
 use Rattle.sets.specs.Symbols.{symbolsOf}
-use Rattle.shapes.specs.declared.refusals.Refusal.{Refusal}
 use Rattle.shapes.specs.declared.refusals.Refusal.the-variants.{ListingForm, ListingFalse}
 use Rattle.matching.specs.Compare.{patternAt, windowOf, cellsOf}
 use Rattle.matching.specs.Windows.{windowPlace}
-use Rattle.matching.specs.declared.compare.WindowPlace.{WindowPlace}
+use Rattle.shapes.specs.declared.windows.WindowPlace.{WindowPlace}
 use Rattle.claims.specs.Claims.{Course, goes, stops, orStop, onward, stands, byteAt, trueMismatch, pairsFrom}
 use Rattle.verify.specs.declared.check.Checked.{Checked}
 use Rattle.verify.specs.declared.check.Checked.the-variants.{Kept, Refused}
@@ -50,11 +48,15 @@ entryFrom text pattern v listing at =
     (pick (stands listing 4 at) (orStop (rightMismatch false text pattern v listing at) (ListingFalse at) (goes (at + 7)))
     (stops (ListingForm at))))
 
+-- window k of a question
+abbrev pub placeIn : Question → ℕ → WindowPlace
+placeIn q k = windowPlace (q .text .columns) (q .pattern .rows) (q .pattern .columns) k
+
 -- the first k windows, from the listing's first byte
-unfoldable pub windowsTo : List ℕ → ℕ → List ℕ → ℕ → ℕ → List ℕ → ℕ → Course
-windowsTo text columns pattern height width listing zero = goes 0
-windowsTo text columns pattern height width listing (suc k) =
-    onward (windowsTo text columns pattern height width listing k) (entryFrom text pattern (windowPlace columns height width k) listing)
+unfoldable pub windowsTo : Question → List ℕ → ℕ → Course
+windowsTo q listing zero = goes 0
+windowsTo q listing (suc k) =
+    onward (windowsTo q listing k) (entryFrom (q .text .cells) (q .pattern .cells) (placeIn q k) listing)
 
 -- the place reached; where the check has stopped, 0, and nothing is read there
 abbrev pub placeOf : Course → ℕ
@@ -62,16 +64,16 @@ placeOf (goes at) = at
 placeOf (stops why) = 0
 
 -- window k stands as found
-unfoldable pub standsFound : List ℕ → ℕ → List ℕ → ℕ → ℕ → List ℕ → ℕ → Bool
-standsFound text columns pattern height width listing k = stands listing 1 (placeOf (windowsTo text columns pattern height width listing k))
+unfoldable pub standsFound : Question → List ℕ → ℕ → Bool
+standsFound q listing k = stands listing 1 (placeOf (windowsTo q listing k))
 
 -- how many of the first n windows do
-unfoldable pub foundTo : List ℕ → ℕ → List ℕ → ℕ → ℕ → List ℕ → ℕ → ℕ
-foundTo text columns pattern height width listing n = count (standsFound text columns pattern height width listing) n
+unfoldable pub foundTo : Question → List ℕ → ℕ → ℕ
+foundTo q listing n = count (standsFound q listing) n
 
 -- and how many do not: as long as the check goes on, these stand as refused
-unfoldable pub refusedTo : List ℕ → ℕ → List ℕ → ℕ → ℕ → List ℕ → ℕ → ℕ
-refusedTo text columns pattern height width listing n = count (λ k. not (standsFound text columns pattern height width listing k)) n
+unfoldable pub refusedTo : Question → List ℕ → ℕ → ℕ
+refusedTo q listing n = count (λ k. not (standsFound q listing k)) n
 
 -- the closing, and behind it the end
 unfoldable pub closingFrom : List ℕ → ℕ → ℕ → ℕ → Course
@@ -81,52 +83,29 @@ closingFrom listing found refused at =
     (orStop (eqb (at + 5) (length listing)) (ListingForm (at + 5)) (goes (at + 5))))
 
 -- the whole listing
-unfoldable pub listingCourse : List ℕ → ℕ → ℕ → List ℕ → ℕ → ℕ → List ℕ → Course
-listingCourse text rows columns pattern height width listing =
-    onward (windowsTo text columns pattern height width listing (windows rows columns height width))
-    (closingFrom listing (foundTo text columns pattern height width listing (windows rows columns height width))
-    (refusedTo text columns pattern height width listing (windows rows columns height width)))
+unfoldable pub listingCourse : Question → List ℕ → Course
+listingCourse q listing =
+    onward (windowsTo q listing (windowsOf q))
+    (closingFrom listing (foundTo q listing (windowsOf q))
+    (refusedTo q listing (windowsOf q)))
 
 -- ---- the operation
 
--- document 01's number of an answer: 0 where the listing is accepted
-abbrev pub checkedNumber : Checked → ℕ
-checkedNumber (Kept found refused) = 0
-checkedNumber (Refused why) = numberOf why
+-- document 01's number and values of an answer: accepted, found and refused; of a refusal its number and what it returns besides, for 6 and 7 the place of the
+-- bad record
+abbrev pub checkedSaid : Checked → Said
+checkedSaid (Kept found refused) = accepts (found ∷ refused ∷ [])
+checkedSaid (Refused why) = refusalSaid why
 
--- document 01's values of an answer: found and refused; of a refusal what it returns besides its number, for 6 and 7 the place of the bad record
-abbrev pub checkedValues : Checked → List ℕ
-checkedValues (Kept found refused) = found ∷ refused ∷ []
-checkedValues (Refused why) = valuesOf why
+-- a check that goes so, with these counts
+abbrev pub courseSaid : Course → ℕ → ℕ → Said
+courseSaid (goes at) found refused = accepts (found ∷ refused ∷ [])
+courseSaid (stops why) found refused = refusalSaid why
 
--- the answer of a check that goes so
-abbrev pub checkedOf : Course → ℕ → ℕ → Checked
-checkedOf (goes at) found refused = Kept found refused
-checkedOf (stops why) found refused = Refused why
+-- 6 or 7 by the first bad record; accepted, found and refused
+unfoldable pub listingSaid : Question → List ℕ → Said
+listingSaid q listing = courseSaid (listingCourse q listing) (foundTo q listing (windowsOf q)) (refusedTo q listing (windowsOf q))
 
--- the answer where sides and cells are good
-unfoldable pub listingAnswer : List ℕ → ℕ → ℕ → List ℕ → ℕ → ℕ → List ℕ → Checked
-listingAnswer text rows columns pattern height width listing =
-    checkedOf (listingCourse text rows columns pattern height width listing)
-    (foundTo text columns pattern height width listing (windows rows columns height width))
-    (refusedTo text columns pattern height width listing (windows rows columns height width))
-
--- refused by 2, 3, 4, and then what comes after
-unfoldable pub shapeNumber : List ℕ → ℕ → ℕ → List ℕ → ℕ → ℕ → ℕ → ℕ
-shapeNumber text rows columns pattern height width after =
-    shapeThen (both (goodCells (length text) rows columns) (goodCells (length pattern) height width)) rows columns height width after
-
--- what the check answers: 2, 3, 4, then 6 or 7 by the first bad record, or accepted, 0
-unfoldable pub checkNumber : List ℕ → ℕ → ℕ → List ℕ → ℕ → ℕ → List ℕ → ℕ
-checkNumber text rows columns pattern height width listing =
-    shapeNumber text rows columns pattern height width (checkedNumber (listingAnswer text rows columns pattern height width listing))
-
--- what it returns besides: nothing with 2, 3, 4
-unfoldable pub checkValues : List ℕ → ℕ → ℕ → List ℕ → ℕ → ℕ → List ℕ → List ℕ
-checkValues text rows columns pattern height width listing =
-    pick (eqb (shapeNumber text rows columns pattern height width 0) 0) (checkedValues (listingAnswer text rows columns pattern height width listing)) []
-
--- number and values of the answer
-pub record Checks (text : List ℕ) (rows columns : ℕ) (pattern : List ℕ) (height width : ℕ) (listing : List ℕ) (r : Checked) : Type 0 where
-  pub number-is : checkedNumber r ≡ checkNumber text rows columns pattern height width listing
-  pub values-are : checkedValues r ≡ checkValues text rows columns pattern height width listing
+-- the check: 2, 3, 4, then the listing
+unfoldable pub checkOf : Question → List ℕ → Said
+checkOf q listing = shapeSaid q then listingSaid q listing

@@ -15,7 +15,7 @@ use Rattle.sets.specs.Symbols.{symbolsOf}
 use Rattle.shapes.specs.declared.refusals.Refusal.{Refusal}
 use Rattle.shapes.specs.declared.refusals.Refusal.the-variants.{ListingForm, ListingFalse}
 use Rattle.matching.specs.Compare.{patternAt, windowOf, cellsOf}
-use Rattle.matching.specs.declared.compare.WindowPlace.{WindowPlace}
+use Rattle.shapes.specs.declared.windows.WindowPlace.{WindowPlace}
 use Rattle.listing.specs.Records.{bytesOf}
 use Rattle.listing.specs.Reader.{Reads, bytesFrom}
 use Rattle.listing.specs.Reading.{HasRecord, has-inside}

@@ -8,17 +8,16 @@ pub mod Windows
 use mathlib.Core.Path.{_≡_}
 use mathlib.Core.Bool.{not}
 use mathlib.Core.List.{List, [], _∷_, _++_}
-use Prim.Native.Nat.{ℕ, _*_, _<_}
-use lib.ListN.{length}
+use Prim.Native.Nat.{ℕ, _<_}
 use Rattle.theory.specs.Join.{joined}
 use Rattle.theory.specs.Count.{count}
 use Rattle.theory.specs.Match.{Maps, Mismatch, Answer, matched, mismatched, isMatch}
-use Rattle.shapes.specs.Shapes.{windows, Shaped}
+use Rattle.shapes.specs.Questions.{Question, Posed, windowsOf}
 use Rattle.sets.specs.Symbols.{symbolsOf}
-use Rattle.matching.specs.Compare.{patternAt, windowOf, cellsOf}
-use Rattle.matching.specs.Windows.{windowPlace}
-use Rattle.matching.specs.declared.compare.WindowPlace.{WindowPlace}
+use Rattle.matching.specs.Compare.{patternOf, windowOf, cellsOf}
+use Rattle.shapes.specs.declared.windows.WindowPlace.{WindowPlace}
 use Rattle.listing.specs.Entries.{bytesAll, entryOf}
+use Rattle.verify.specs.Check.{placeIn}
 use Rattle.listing.specs.declared.records.Record.{Record}
 use Rattle.listing.specs.declared.records.Record.the-variants.{Closing}
 
@@ -38,8 +37,8 @@ pub record Entries : Type 0 where
   pub image : ℕ → ℕ → ℕ
 
 -- the records of the first n windows in their order
-unfoldable pub recordsTo : List ℕ → ℕ → ℕ → ℕ → Entries → ℕ → List Record
-recordsTo pattern columns height width e n = joined (λ k. recordsAt pattern (windowPlace columns height width k) (e .image k) (e .answer k)) n
+unfoldable pub recordsTo : Question → Entries → ℕ → List Record
+recordsTo q e n = joined (λ k. recordsAt (q .pattern .cells) (placeIn q k) (e .image k) (e .answer k)) n
 
 -- how many of the first n windows stand as found
 abbrev pub foundAmong : Entries → ℕ → ℕ
@@ -50,15 +49,14 @@ abbrev pub refusedAmong : Entries → ℕ → ℕ
 refusedAmong e n = count (λ k. not (isMatch (e .answer k))) n
 
 -- text and pattern fill their sides, and the pattern fits; these entries make the listing, with found and refused in the closing
-pub record Keeps (text : List ℕ) (rows columns : ℕ) (pattern : List ℕ) (height width : ℕ) (listing : List ℕ) (found refused : ℕ) (e : Entries) : Type 0 where
-  pub shape : Shaped (length text) rows columns height width
-  pub pattern-shape : length pattern ≡ height * width
-  pub each-true : (k : ℕ) → k < windows rows columns height width
-      → TrueOf (patternAt pattern) (windowOf text (windowPlace columns height width k)) (cellsOf (windowPlace columns height width k)) (e .image k) (e .answer k)
-  pub found-is : found ≡ foundAmong e (windows rows columns height width)
-  pub refused-is : refused ≡ refusedAmong e (windows rows columns height width)
-  pub bytes-are : listing ≡ bytesAll (recordsTo pattern columns height width e (windows rows columns height width) ++ (Closing found refused ∷ []))
+pub record Keeps (q : Question) (listing : List ℕ) (found refused : ℕ) (e : Entries) : Type 0 where
+  pub posed-is : Posed q
+  pub each-true : (k : ℕ) → k < windowsOf q
+      → TrueOf (patternOf q) (windowOf (q .text .cells) (placeIn q k)) (cellsOf (placeIn q k)) (e .image k) (e .answer k)
+  pub found-is : found ≡ foundAmong e (windowsOf q)
+  pub refused-is : refused ≡ refusedAmong e (windowsOf q)
+  pub bytes-are : listing ≡ bytesAll (recordsTo q e (windowsOf q) ++ (Closing found refused ∷ []))
 
 -- the listing keeps the rules, with that many windows found and refused
-abbrev pub KeepsRules : List ℕ → ℕ → ℕ → List ℕ → ℕ → ℕ → List ℕ → ℕ → ℕ → Type 0
-KeepsRules text rows columns pattern height width listing found refused = (e : Entries) × Keeps text rows columns pattern height width listing found refused e
+abbrev pub KeepsRules : Question → List ℕ → ℕ → ℕ → Type 0
+KeepsRules q listing found refused = (e : Entries) × Keeps q listing found refused e

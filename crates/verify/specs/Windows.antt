@@ -11,72 +11,71 @@ use lib.Dec.{eqb}
 use lib.ListN.{length, getD}
 use Rattle.theory.specs.Test.{pick}
 use Rattle.theory.specs.Count.{count, count-le}
-use Rattle.grid.specs.Counts.{ShapeOf, across, down}
-use Rattle.grid.specs.declared.counts.Shape.{Shape}
+use Rattle.shapes.specs.Shapes.{ShapeOf, across, down}
+use Rattle.shapes.specs.declared.shapes.Shape.{Shape}
+use Rattle.shapes.specs.Questions.{Question, windowsOf}
 use Rattle.shapes.specs.declared.refusals.Refusal.{Refusal}
 use Rattle.matching.specs.Compare.{Placed, cellsOf}
 use Rattle.matching.specs.Windows.{windowPlace, placed-window}
-use Rattle.matching.specs.declared.compare.WindowPlace.{WindowPlace}
+use Rattle.shapes.specs.declared.windows.WindowPlace.{WindowPlace}
 use Rattle.claims.specs.Claims.{Course, goes, stops}
-use Rattle.verify.specs.Check.{entryFrom, windowsTo, standsFound, foundTo}
+use Rattle.verify.specs.Check.{entryFrom, placeIn, windowsTo, standsFound, foundTo}
 use Rattle.verify.specs.Entries.{goes-found}
 use Rattle.verify.specs.declared.windows.Walked.{Walked}
 use Rattle.verify.specs.declared.windows.Walked.the-variants.{Passed, Stopped}
 
 -- where all windows end, and how many stand as found; or the first bad record
-abbrev pub WindowsWalked : List ℕ → List ℕ → Shape → List ℕ → Walked → Type 0
-WindowsWalked text pattern s listing (Passed at found) =
-    (windowsTo text (s .columns) pattern (s .height) (s .width) listing (down s * across s) ≡ goes at)
-    × (found ≡ foundTo text (s .columns) pattern (s .height) (s .width) listing (down s * across s))
-WindowsWalked text pattern s listing (Stopped why) = windowsTo text (s .columns) pattern (s .height) (s .width) listing (down s * across s) ≡ stops why
+abbrev pub WindowsWalked : Question → List ℕ → Walked → Type 0
+WindowsWalked q listing (Passed at found) = (windowsTo q listing (windowsOf q) ≡ goes at) × (found ≡ foundTo q listing (windowsOf q))
+WindowsWalked q listing (Stopped why) = windowsTo q listing (windowsOf q) ≡ stops why
 
 -- ---- from window to window
 
-module _ (text : List ℕ) (columns : ℕ) (pattern : List ℕ) (height width : ℕ) (listing : List ℕ) where
-  pub windows-none : windowsTo text columns pattern height width listing 0 ≡ goes 0
+module _ (q : Question) (listing : List ℕ) where
+  pub windows-none : windowsTo q listing 0 ≡ goes 0
   unfolding windowsTo
   windows-none = refl
 
-  pub found-none : 0 ≡ foundTo text columns pattern height width listing 0
+  pub found-none : 0 ≡ foundTo q listing 0
   unfolding foundTo count
   found-none = refl
 
   -- one window more, where the walk goes on
-  windows-next : (k at : ℕ) → windowsTo text columns pattern height width listing k ≡ goes at
-      → windowsTo text columns pattern height width listing (k + 1) ≡ entryFrom text pattern (windowPlace columns height width k) listing at
+  windows-next : (k at : ℕ) → windowsTo q listing k ≡ goes at
+      → windowsTo q listing (k + 1) ≡ entryFrom (q .text .cells) (q .pattern .cells) (placeIn q k) listing at
   unfolding windowsTo
   windows-next k at e = rw (add-one k, e)
 
   -- where it has stopped, it stays so
-  windows-stay : (why : Refusal) (k m : ℕ) → windowsTo text columns pattern height width listing k ≡ stops why
-      → windowsTo text columns pattern height width listing (k + m) ≡ stops why
+  windows-stay : (why : Refusal) (k m : ℕ) → windowsTo q listing k ≡ stops why
+      → windowsTo q listing (k + m) ≡ stops why
   unfolding windowsTo
   windows-stay why k zero e = rw (add-zero k) e
   windows-stay why k (suc m) e = rw (add-suc k m, windows-stay why k m e)
 
-  pub windows-stopped : (why : Refusal) (k n : ℕ) → k ≤ n → windowsTo text columns pattern height width listing k ≡ stops why
-      → windowsTo text columns pattern height width listing n ≡ stops why
+  pub windows-stopped : (why : Refusal) (k n : ℕ) → k ≤ n → windowsTo q listing k ≡ stops why
+      → windowsTo q listing n ≡ stops why
   windows-stopped why k n h e =
-      ap (windowsTo text columns pattern height width listing) (omega arith) ∙ windows-stay why k (n - k) e
+      ap (windowsTo q listing) (omega arith) ∙ windows-stay why k (n - k) e
 
   -- what the records at a place say, of the window that is due there
-  module _ (k at : ℕ) (v : WindowPlace) (reached : windowsTo text columns pattern height width listing k ≡ goes at)
-      (v-is : v ≡ windowPlace columns height width k) where
-    pub windows-step : (c : Course) → c ≡ entryFrom text pattern v listing at → windowsTo text columns pattern height width listing (k + 1) ≡ c
-    windows-step c e = windows-next k at reached ∙ sym (e ∙ ap (λ (u : WindowPlace). entryFrom text pattern u listing at) v-is)
+  module _ (k at : ℕ) (v : WindowPlace) (reached : windowsTo q listing k ≡ goes at)
+      (v-is : v ≡ placeIn q k) where
+    pub windows-step : (c : Course) → c ≡ entryFrom (q .text .cells) (q .pattern .cells) v listing at → windowsTo q listing (k + 1) ≡ c
+    windows-step c e = windows-next k at reached ∙ sym (e ∙ ap (λ (u : WindowPlace). entryFrom (q .text .cells) (q .pattern .cells) u listing at) v-is)
 
     -- one more is found where a found record stands
-    pub found-step : (found next r : ℕ) → goes next ≡ entryFrom text pattern v listing at
-        → found ≡ foundTo text columns pattern height width listing k → r ≡ pick (eqb (getD listing at 0) 1) (found + 1) found
-        → r ≡ foundTo text columns pattern height width listing (k + 1)
+    pub found-step : (found next r : ℕ) → goes next ≡ entryFrom (q .text .cells) (q .pattern .cells) v listing at
+        → found ≡ foundTo q listing k → r ≡ pick (eqb (getD listing at 0) 1) (found + 1) found
+        → r ≡ foundTo q listing (k + 1)
     unfolding foundTo count standsFound
     found-step found next r e f s =
-        s ∙ ap (λ (b : Bool). pick b (found + 1) found) (goes-found text pattern v listing at next e) ∙ rw (add-one k, reached, f)
+        s ∙ ap (λ (b : Bool). pick b (found + 1) found) (goes-found (q .text .cells) (q .pattern .cells) v listing at next e) ∙ rw (add-one k, reached, f)
 
   -- no more are found than there are
-  pub found-le : (k : ℕ) → foundTo text columns pattern height width listing k ≤ k
+  pub found-le : (k : ℕ) → foundTo q listing k ≤ k
   unfolding foundTo
-  found-le k = count-le (standsFound text columns pattern height width listing) k
+  found-le k = count-le (standsFound q listing) k
 
 -- what the reading of window k asks of it
 pub window-asks : (text pattern : List ℕ) (s : Shape) → ShapeOf s (length text) → length pattern ≡ s .height * s .width → (k : ℕ) → k < down s * across s

@@ -1,21 +1,19 @@
 // Document 01's check of a listing: every window in order, found with its pairs or refused with two cells that spoil it, then the closing, then the end.
 ghost use mathlib.Core.Path.{_≡_};
-ghost use Prim.Native.Nat.{_*_};
-ghost use lib.ListN.{length};
 ghost use Rattle.theory.specs.Bytes.{Bytes};
-ghost use Rattle.grid.specs.Counts.{ShapeOf};
-ghost use Rattle.verify.specs.Check.{closingFrom, listingAnswer, Checks};
+ghost use Rattle.shapes.specs.Questions.{Posed, ask, asked};
+ghost use Rattle.verify.specs.Check.{closingFrom, checkedSaid, listingSaid, checkOf};
 ghost use Rattle.claims.specs.Passages.{courseOf};
 use crate::windows::Walked;
 use crate::windows::read_windows;
 use claims::passages::Passage;
-use grid::counts::Shape;
 use listing::reader::Cursor;
 use listing::reader::Read;
 use listing::records::Record;
 use shapes::refusals::Outcome;
 use shapes::refusals::Refusal;
-use shapes::shapes::pattern_outcome;
+use shapes::shapes::Shape;
+use shapes::shapes::question_outcome;
 
 // What the check answers.
 pub enum Checked {
@@ -54,8 +52,9 @@ fn read_closing(listing: &[u8], found: u16, refused: u16, at: usize) -> Passage
 
 // The check where sides and cells are good.
 fn check_listing(text: &[u8], pattern: &[u8], s: Shape, listing: &[u8]) -> Checked
-    requires { ⌜ ShapeOf s (length (now text)) × (length (now pattern) ≡ s .height * s .width) ⌝ }
-    ensures { λ r. ⌜ r ≡ listingAnswer (now (text .entry)) (s .rows) (s .columns) (now (pattern .entry)) (s .height) (s .width) (now (listing .entry)) ⌝ }
+    requires { ⌜ Posed (asked (now text) (now pattern) s) ⌝ }
+    ensures { λ r. ⌜
+        checkedSaid r ≡ listingSaid (asked (now (text .entry)) (now (pattern .entry)) s) (now (listing .entry)) ⌝ }
 {
     let walked = read_windows(text, pattern, s, listing);
     match walked {
@@ -72,7 +71,7 @@ fn check_listing(text: &[u8], pattern: &[u8], s: Shape, listing: &[u8]) -> Check
     }
 }
 
-// Checks a listing for a text and a pattern. Refused by 2, 3, 4, then by 6 or 7 with the place of the first bad record. That pattern and listing are bytes,
+// Checks a listing for a text and a pattern. Refused by 2, 3, 4, then by 6 or 7 with the place of the first bad record. That text, pattern and listing are bytes,
 // which their types say, is ensured too, so that demand 3 needs nothing but what stands here.
 pub fn check(
     text: &[u8],
@@ -83,20 +82,20 @@ pub fn check(
     width: usize,
     listing: &[u8],
 ) -> Checked
-    ensures { λ r. ⌜ Checks (now (text .entry)) rows columns (now (pattern .entry)) height width (now (listing .entry)) r ⌝ }
-    ensures { λ r. ⌜ Bytes (now (pattern .entry)) × Bytes (now (listing .entry)) ⌝ }
+    ensures { λ r. ⌜
+        checkedSaid r
+        ≡ checkOf (ask (now (text .entry)) rows columns (now (pattern .entry)) height width) (now (listing .entry)) ⌝ }
+    ensures { λ r. ⌜ Bytes (now (text .entry)) × Bytes (now (pattern .entry)) × Bytes (now (listing .entry)) ⌝ }
 {
-    let outcome = pattern_outcome(text.len(), rows, columns, pattern.len(), height, width);
+    let s = Shape {
+        rows,
+        columns,
+        height,
+        width,
+    };
+    let outcome = question_outcome(text, pattern, s);
     match outcome {
         Outcome::Refused(why) => Checked::Refused(why),
-        Outcome::Accepted => {
-            let s = Shape {
-                rows,
-                columns,
-                height,
-                width,
-            };
-            check_listing(text, pattern, s, listing)
-        }
+        Outcome::Accepted => check_listing(text, pattern, s, listing),
     }
 }

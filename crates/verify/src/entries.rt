@@ -19,8 +19,8 @@ use listing::reader::Cursor;
 use listing::reader::Read;
 use listing::records::Record;
 use listing::records::Spoiled;
-use matching::compare::WindowPlace;
 use shapes::refusals::Refusal;
+use shapes::windows::WindowPlace;
 
 // Whether a record names the window that is due.
 fn is_due(v: WindowPlace, row: u8, column: u8) -> bool
@@ -41,7 +41,9 @@ fn refused_window(
     next: usize,
 ) -> Passage
     requires { ⌜ Placed (now text) v × (length (now pattern) ≡ cellsOf v) × MismatchAt body (now listing) at ⌝ }
-    ensures { λ r. ⌜ courseOf r ≡ orStop (rightMismatch «alike_in_pattern» (now (text .entry)) (now (pattern .entry)) v (now (listing .entry)) at) (ListingFalse at) (goes next) ⌝ }
+    ensures { λ r. ⌜
+        courseOf r ≡ orStop (rightMismatch «alike_in_pattern» (now (text .entry)) (now (pattern .entry)) v
+        (now (listing .entry)) at) (ListingFalse at) (goes next) ⌝ }
 {
     if !is_due(v, body.window.row, body.window.column) {
         return Passage::Stopped(Refusal::ListingFalse(at));
@@ -65,7 +67,10 @@ pub fn read_entry(
     listing: &[u8],
     at: usize,
 ) -> Passage
-    requires { ⌜ Placed (now text) v × (length (now pattern) ≡ cellsOf v) × (now symbols ≡ symbolsOf (now pattern)) × (length (now images) ≡ 256) × Older base (now given) × (base ≤ 16777216) × RowsRepeat (now pattern) (v .width) period ⌝ }
+    requires { ⌜
+        Placed (now text) v × (length (now pattern) ≡ cellsOf v) × (now symbols ≡ symbolsOf (now pattern))
+        × (length (now images) ≡ 256) × Older base (now given) × (base ≤ 16777216)
+        × RowsRepeat (now pattern) (v .width) period ⌝ }
     ensures { λ r. ⌜ courseOf r ≡ entryFrom (now (text .entry)) (now (pattern .entry)) v (now (listing .entry)) at ⌝ }
     ensures { λ r. ⌜ Older (base + 256) (now (given .exit)) ⌝ }
     ensures { λ r. ⌜ length (now (images .exit)) ≡ 256 ⌝ }

@@ -5,19 +5,20 @@ ghost use lib.Dec.{eqb};
 ghost use lib.ListN.{length, replicate};
 ghost use Rattle.theory.specs.Older.{Older};
 ghost use Rattle.theory.specs.Test.{pick};
-ghost use Rattle.grid.specs.Counts.{ShapeOf};
+ghost use Rattle.shapes.specs.Shapes.{ShapeOf};
+ghost use Rattle.shapes.specs.Questions.{asked};
 ghost use Rattle.sets.specs.Symbols.{symbolsOf};
 ghost use Rattle.sets.specs.Repeats.{RowsRepeat};
 ghost use Rattle.verify.specs.Windows.{WindowsWalked};
 use crate::entries::read_entry;
 use claims::passages::Passage;
-use grid::counts::Shape;
-use matching::compare::WindowPlace;
 use matching::windows::next_window;
 use sets::repeats::row_period;
 use sets::symbols::list_symbols;
 use sets::symbols::symbols_of;
 use shapes::refusals::Refusal;
+use shapes::shapes::Shape;
+use shapes::windows::WindowPlace;
 
 // Where the windows end, and how many of them stand as found; or the first bad record.
 pub enum Walked {
@@ -61,8 +62,11 @@ fn walk_windows(
     given: &mut [u32; 256],
     listing: &[u8],
 ) -> Walked
-    requires { ⌜ ShapeOf s (length (now text)) × (length (now pattern) ≡ s .height * s .width) × (now symbols ≡ symbolsOf (now pattern)) × (length (now images) ≡ 256) × Older 256 (now given) × RowsRepeat (now pattern) (s .width) period ⌝ }
-    ensures { λ r. ⌜ WindowsWalked (now (text .entry)) (now (pattern .entry)) s (now (listing .entry)) r ⌝ }
+    requires { ⌜
+        ShapeOf s (length (now text)) × (length (now pattern) ≡ s .height * s .width)
+        × (now symbols ≡ symbolsOf (now pattern)) × (length (now images) ≡ 256) × Older 256 (now given)
+        × RowsRepeat (now pattern) (s .width) period ⌝ }
+    ensures { λ r. ⌜ WindowsWalked (asked (now (text .entry)) (now (pattern .entry)) s) (now (listing .entry)) r ⌝ }
 {
     let across = s.columns + 1 - s.width;
     let n = (s.rows + 1 - s.height) * across;
@@ -110,7 +114,7 @@ fn walk_windows(
 // found once, and not again for each window.
 pub fn read_windows(text: &[u8], pattern: &[u8], s: Shape, listing: &[u8]) -> Walked
     requires { ⌜ ShapeOf s (length (now text)) × (length (now pattern) ≡ s .height * s .width) ⌝ }
-    ensures { λ r. ⌜ WindowsWalked (now (text .entry)) (now (pattern .entry)) s (now (listing .entry)) r ⌝ }
+    ensures { λ r. ⌜ WindowsWalked (asked (now (text .entry)) (now (pattern .entry)) s) (now (listing .entry)) r ⌝ }
 {
     let set = symbols_of(pattern);
     let mut listed = no_symbols();

@@ -55,7 +55,8 @@ pub fn window_view<'a>(text: &'a [u8], columns: usize, row: usize, column: usize
 // Row i of a view. It takes the view apart and leaves the work to `row_part`.
 pub fn row_of<'a>(v: WindowView<'a>, width: usize, i: usize) -> &'a [u8]
     requires { ⌜ RowInside (now (v .text)) (v .columns) (v .row) (v .column) width i ⌝ }
-    ensures { λ r. ⌜ now r ≡ rowCells (now (v .entry .text)) (v .entry .columns) (v .entry .row + i) (v .entry .column) width ⌝ }
+    ensures { λ r. ⌜
+        now r ≡ rowCells (now (v .entry .text)) (v .entry .columns) (v .entry .row + i) (v .entry .column) width ⌝ }
 {
     row_part(v.text, v.columns, v.row, v.column, width, i)
 }
@@ -63,7 +64,8 @@ pub fn row_of<'a>(v: WindowView<'a>, width: usize, i: usize) -> &'a [u8]
 // The symbol at position p of a view. It takes the view apart and leaves the work to `cell_at`.
 pub fn symbol_of<'a>(v: WindowView<'a>, width: usize, p: usize) -> u8
     requires { ⌜ CellInside (now (v .text)) (v .columns) (v .row) (v .column) width p ⌝ }
-    ensures { λ r. ⌜ r ≡ windowAt (now (v .entry .text)) (v .entry .columns) (v .entry .row) (v .entry .column) width p ⌝ }
+    ensures { λ r. ⌜
+        r ≡ windowAt (now (v .entry .text)) (v .entry .columns) (v .entry .row) (v .entry .column) width p ⌝ }
 {
     cell_at(v.text, v.columns, v.row, v.column, width, p)
 }

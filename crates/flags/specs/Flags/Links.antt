@@ -1,7 +1,7 @@
 -- What the links operation leaves for a strip of a shape that was not refused: the strip's links, and behind them what was there.
 -- Assumes nothing.
 use mathlib.Core.Path.{_≡_, refl, sym, _∙_, ap}
-use mathlib.Core.List.{List, _++_}
+use mathlib.Core.List.{List, [], _++_}
 use Prim.Native.Nat.{ℕ, _*_, _≤_, _<_}
 use native.Mathlib.Omega.{arith}
 use lib.ListN.{length, drop, length-append, length-drop, List·getD-append}
@@ -10,9 +10,10 @@ use Rattle.theory.specs.Test.{is-true}
 use Rattle.theory.specs.Table.{table, length-table, getD-table}
 use Rattle.shapes.specs.Shapes.{Shaped, corner-inside}
 use Rattle.shapes.specs.Windows.{stripAt}
-use Rattle.grid.specs.Strips.{link, linksNumber, linksAfter, links-accepted, links-after}
-use Rattle.grid.specs.Counts.{ShapeOf, across}
-use Rattle.grid.specs.declared.counts.Shape.{Shape}
+use Rattle.shapes.specs.Said.{accepts}
+use Rattle.grid.specs.Strips.{link, linksSaid, linksAfter, links-accepted, links-after}
+use Rattle.shapes.specs.Shapes.{ShapeOf, across}
+use Rattle.shapes.specs.declared.shapes.Shape.{Shape}
 use Rattle.flags.specs.Flags.Strips.{LinksAre}
 
 -- all but the first n entries of a buffer are as they were
@@ -45,10 +46,10 @@ module _ (text : List ℕ) (s : Shape) (left : ℕ) (links after : List ℕ) (sh
         cells-is = shape .cells-is;
       }
 
-  accepted : linksNumber (length text) (s .rows) (s .columns) (s .width) left (length links) ≡ 0
+  accepted : linksSaid text (s .rows) (s .columns) (s .width) left (length links) ≡ accepts []
   accepted =
       sym
-      (links-accepted (length text) (s .rows) (s .columns) (s .width) left (length links) tall
+      (links-accepted text (s .rows) (s .columns) (s .width) left (length links) tall
       (is-true (corner-inside (s .rows) (s .columns) (s .rows) (s .width) 0 left) (record { row-le = omega arith; column-le = omega arith })) room)
 
   written : List ℕ

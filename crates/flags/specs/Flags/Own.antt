@@ -10,8 +10,8 @@ use lib.ListN.{length, getD}
 use Rattle.shapes.specs.Windows.{stripAt, window-at, window-strip}
 use Rattle.grid.specs.Strips.{link, linksAfter}
 use Rattle.grid.specs.Strips.Links.{link-ext}
-use Rattle.grid.specs.Counts.{ShapeOf}
-use Rattle.grid.specs.declared.counts.Shape.{Shape}
+use Rattle.shapes.specs.Shapes.{ShapeOf}
+use Rattle.shapes.specs.declared.shapes.Shape.{Shape}
 use Rattle.matching.specs.Compare.{patternAt}
 use Rattle.flags.specs.Flags.{Room}
 use Rattle.flags.specs.Flags.Links.{links-written, links-kept}

@@ -7,25 +7,28 @@ use native.Mathlib.Omega.{arith}
 use lib.ListN.{length, drop, List·getD-append, length-append, length-drop}
 use Rattle.theory.specs.Table.{table, length-table, getD-table}
 use Rattle.theory.specs.Store.{stored, storedRows, rows-none, rows-more, rows-all, Covers}
-use Rattle.shapes.specs.Refusals.{bufferAfter}
-use Rattle.grid.specs.Counts.{ShapeOf, across, down, countOf, countsAfter, counts-accepted, counts-after, windows-covered}
-use Rattle.grid.specs.declared.counts.Shape.{Shape}
+use Rattle.shapes.specs.Said.{overFront}
+use Rattle.shapes.specs.Shapes.{ShapeOf, across, down}
+use Rattle.grid.specs.Counts.{countOf, countsAfter, counts-accepted, counts-after, windows-covered}
+use Rattle.shapes.specs.declared.shapes.Shape.{Shape}
+use Rattle.shapes.specs.Questions.{asked}
+use Rattle.flags.specs.Flags.{Work, working, marked}
 use Rattle.flags.specs.Flags.Strips.{CountsAre, flagOf}
 use Rattle.flags.specs.Flags.Links.{Kept}
 
 -- the first n entries of a buffer
-buffer-table : (f : ℕ → ℕ) (n : ℕ) (l : List ℕ) → bufferAfter 0 (table f n) l ≡ table f n ++ drop n l
+buffer-table : (f : ℕ → ℕ) (n : ℕ) (l : List ℕ) → overFront (table f n) l ≡ table f n ++ drop n l
 buffer-table f n l = ap (λ (k : ℕ). table f n ++ drop k l) (length-table f n)
 
 -- ---- counts
 
 module _ (text : List ℕ) (s : Shape) (counts after : List ℕ) (shape : ShapeOf s (length text)) (room : down s * across s ≤ length counts)
-    (is : after ≡ countsAfter text (s .rows) (s .columns) (s .height) (s .width) counts) where
+    (is : after ≡ countsAfter text s counts) where
   after-is : after ≡ table (countOf text s) (down s * across s) ++ drop (down s * across s) counts
   after-is =
       is
-      ∙ counts-after text (s .rows) (s .columns) (s .height) (s .width) counts
-      (sym (counts-accepted (length text) (s .rows) (s .columns) (s .height) (s .width) (length counts) shape room))
+      ∙ counts-after text s counts
+      (sym (counts-accepted text s (length counts) shape room))
 
   pub counts-there : CountsAre text s after
   counts-there k h =
@@ -39,11 +42,27 @@ module _ (text : List ℕ) (s : Shape) (counts after : List ℕ) (shape : ShapeO
       ∙ length-append (table (countOf text s) (down s * across s)) (drop (down s * across s) counts)
       ∙ omega (arith, length-table (countOf text s) (down s * across s), length-drop (down s * across s) counts)
 
+  -- the counts of all windows, and the rest as it was
+  pub counts-over : after ≡ overFront (table (countOf text s) (down s * across s)) counts
+  counts-over = after-is ∙ sym (buffer-table (countOf text s) (down s * across s) counts)
+
+-- all three
+pub marks-over : (text pattern : List ℕ) (s : Shape) (w after : Work)
+    → after .links ≡ overFront (table (λ p. 0) (s .rows * s .width)) (w .links)
+    → after .counts ≡ overFront (table (countOf text s) (down s * across s)) (w .counts)
+    → after .flags ≡ overFront (table (flagOf text pattern s) (down s * across s)) (w .flags)
+    → after ≡ marked (asked text pattern s) w
+unfolding marked
+marks-over text pattern s w after a b c = ap₃ working a b c
+  where
+    ap₃ : (f : List ℕ → List ℕ → List ℕ → Work) {a b c x y z : List ℕ} → a ≡ x → b ≡ y → c ≡ z → f a b c ≡ f x y z
+    ap₃ f e g h = rw (e, g, h)
+
 -- ---- flags
 
 pub flags-over : (text pattern : List ℕ) (s : Shape) (flags after : List ℕ) → 0 < across s → down s * across s ≤ length flags
     → after ≡ storedRows (flagOf text pattern s) (λ left top. top * across s + left) (across s) (down s) flags
-    → after ≡ bufferAfter 0 (table (flagOf text pattern s) (down s * across s)) flags
+    → after ≡ overFront (table (flagOf text pattern s) (down s * across s)) flags
 flags-over text pattern s flags after pos room e =
     e
     ∙ rows-all (flagOf text pattern s) (λ left top. top * across s + left) (down s) (across s) (down s * across s) flags (windows-covered s pos) room
@@ -61,7 +80,7 @@ cleared n l r h e =
     ∙ rows-all (λ p. 0) (λ i j. j) n 1 n l (one-row n) h
 
 pub links-over : (n : ℕ) (links used after : List ℕ) → n ≤ length links → Kept n links used → after ≡ stored (λ p. 0) (λ p. p) n used
-    → after ≡ bufferAfter 0 (table (λ p. 0) n) links
+    → after ≡ overFront (table (λ p. 0) n) links
 links-over n links used after room kept e =
     cleared n used after (omega (arith, kept .long)) e
     ∙ ap (λ (r : List ℕ). table (λ p. 0) n ++ r) (kept .behind)

@@ -10,17 +10,20 @@ use Rattle.theory.specs.Test.{pick}
 use Rattle.theory.specs.Table.{table, table-is}
 use Rattle.theory.specs.Store.{stored, stored-ext}
 use Rattle.theory.specs.Match.{isMatch, answerOf}
+use Rattle.shapes.specs.Questions.{asked}
 use Rattle.shapes.specs.Windows.{windowAt, windowCells, stripAt, window-strip, cells-table, corner-row, corner-column}
 use Rattle.grid.specs.Distinct.{distinct}
 use Rattle.grid.specs.Strips.{link}
-use Rattle.grid.specs.Counts.{ShapeOf, across, down, countOf, window-count, place-lt}
-use Rattle.grid.specs.declared.counts.Shape.{Shape}
+use Rattle.shapes.specs.Shapes.{ShapeOf, across, down}
+use Rattle.grid.specs.Counts.{countOf, window-count, place-lt}
+use Rattle.shapes.specs.declared.shapes.Shape.{Shape}
 use Rattle.matching.specs.Compare.{patternAt}
-use Rattle.flags.specs.Flags.{Room, answerAt, windowFlag, flagFrom, flag-at, flag-right, strip-part}
+use Rattle.matching.specs.Questions.{answerAt}
+use Rattle.flags.specs.Flags.{Room, windowFlag, flagFrom, flag-at, flag-right, strip-part}
 
 -- the flag of window k
 abbrev pub flagOf : List ℕ → List ℕ → Shape → ℕ → ℕ
-flagOf text pattern s = windowFlag text (s .columns) pattern (s .height) (s .width)
+flagOf text pattern s = windowFlag (asked text pattern s)
 
 -- the counts buffer has the count of every window
 abbrev pub CountsAre : List ℕ → Shape → List ℕ → Type 0
@@ -73,7 +76,7 @@ module _ (text pattern : List ℕ) (symbols : ℕ) (s : Shape) (left : ℕ) (cou
       cells = cells-table text (s .columns) top left (s .height) (s .width) ∙ ap (table w) (sym size)
 
       there : _≡_ {A = ℕ} (pick (isMatch (answerOf m w (length pattern))) 1 0)
-          (pick (isMatch (answerAt text (s .columns) pattern (s .height) (s .width) (top * across s + left))) 1 0)
+          (pick (isMatch (answerAt (asked text pattern s) (top * across s + left))) 1 0)
       there = rw (size, corner-row (across s) top left strip, corner-column (across s) top left strip)
 
   -- all windows of the strip

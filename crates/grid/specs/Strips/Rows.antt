@@ -1,7 +1,7 @@
 -- How the code makes a strip's links, position by position and row by row: what its proofs cite.
 -- Assumes nothing.
 use mathlib.Core.Path.{_≡_, refl, sym, _∙_, ap, subst}
-use mathlib.Core.List.{List}
+use mathlib.Core.List.{List, []}
 use Prim.Native.Nat.{ℕ, suc, _+_, _-_, _*_, _/_, _%_, _≤_, _<_}
 use native.Mathlib.Decide.{ℕ-discrete}
 use native.Mathlib.Nat.{add-zero, add-suc, suc-mul, mul-le-mul-right, mod-lt, div-lt-iff-lt-mul, div-add-mod'}
@@ -15,7 +15,8 @@ use Rattle.theory.specs.Test.{pick}
 use Rattle.theory.specs.Store.{stored, storedRows, stored-none, stored-more, rows-more, rows-all, Covers}
 use Rattle.shapes.specs.Shapes.{product-le}
 use Rattle.shapes.specs.Windows.{rowCells, row-inside, length-row, row-at, window-strip}
-use Rattle.grid.specs.Strips.{link, linksNumber, linksAfter, links-passed, links-after, stripSymbols, StripOf, Latest, never, latest, LastPlaces, RowAt, Linkable, LinkedRow}
+use Rattle.shapes.specs.Said.{accepts}
+use Rattle.grid.specs.Strips.{link, linksSaid, linksAfter, links-passed, links-after, stripSymbols, StripOf, Latest, never, latest, LastPlaces, RowAt, Linkable, LinkedRow}
 use Rattle.grid.specs.Strips.Links.{none, back, linked-is}
 use Rattle.grid.specs.declared.strips.Strip.{Strip}
 
@@ -136,13 +137,13 @@ positions-covered rows width pos =
     }
 
 -- what an accepted call hands on, and what it leaves when all rows are linked
-pub strip-of : (text : List ℕ) (t : Strip) (room : ℕ) → linksNumber (length text) (t .rows) (t .columns) (t .width) (t .left) room ≡ 0
+pub strip-of : (text : List ℕ) (t : Strip) (room : ℕ) → linksSaid text (t .rows) (t .columns) (t .width) (t .left) room ≡ accepts []
     → StripOf t (length text) × (t .rows * t .width ≤ room)
 strip-of text t room z =
-    let p = links-passed (length text) (t .rows) (t .columns) (t .width) (t .left) room z in
+    let p = links-passed text (t .rows) (t .columns) (t .width) (t .left) room [] z in
     (record { shape = p .0; inside = p .1 }, p .2)
 
-pub links-written : (text : List ℕ) (t : Strip) (links r : List ℕ) → linksNumber (length text) (t .rows) (t .columns) (t .width) (t .left) (length links) ≡ 0
+pub links-written : (text : List ℕ) (t : Strip) (links r : List ℕ) → linksSaid text (t .rows) (t .columns) (t .width) (t .left) (length links) ≡ accepts []
     → r ≡ storedRows (link (stripSymbols text t)) (λ i j. i * t .width + j) (t .rows) (t .width) links
     → r ≡ linksAfter text (t .rows) (t .columns) (t .width) (t .left) links
 links-written text t links r z e =

@@ -1,112 +1,85 @@
 -- The question's refusals in their order, and what one that is not refused has: the window lies in the text.
 -- Assumes nothing.
-use mathlib.Core.Path.{_≡_, sym, _∙_, subst}
-use mathlib.Core.Bool.{Bool, true, false}
-use mathlib.Core.List.{List}
+use mathlib.Core.Path.{_≡_, refl, sym}
+use mathlib.Core.Bool.{true, false}
+use mathlib.Core.List.{List, []}
 use mathlib.Core.Logic.{_↔_}
-use Prim.Native.Nat.{ℕ, _*_, _≤_, _<_}
+use Prim.Native.Nat.{ℕ, _*_}
 use native.Mathlib.Nat.{mul-le-mul-right}
 use native.Mathlib.Omega.{arith}
 use lib.ListN.{length}
-use Rattle.theory.specs.Test.{both, Tested, both-tested, says-true, is-true}
-use Rattle.shapes.specs.Refusals.{unless}
-use Rattle.shapes.specs.Shapes.{shapeThen, goodCells, good-cells, cornerInside, corner-inside, Sides, Fits, Corner, shape-number-le, shape-refused, shape-then-zero, shape-passed, shape-passes, one-passed, product-le}
-use Rattle.matching.specs.Compare.{windowNumber, Placed}
+use Rattle.theory.specs.Test.{says-true, is-true}
+use Rattle.theory.specs.Match.{Answer, matched, mismatched}
+use Rattle.shapes.specs.Said.{accepts, refuses, check, outcomeSaid, saidValues, then-stopped, then-both, check-true}
+use Rattle.shapes.specs.Questions.{Question, shapeSaid, Posed, posed, posed-said}
+use Rattle.shapes.specs.Shapes.{cornerInside, corner-inside, product-le}
+use Rattle.shapes.specs.declared.refusals.Refusal.{Refusal}
+use Rattle.shapes.specs.declared.refusals.Outcome.{Outcome}
+use Rattle.shapes.specs.declared.refusals.Outcome.the-variants.{Refused}
+use Rattle.shapes.specs.declared.windows.WindowPlace.{WindowPlace}
+use Rattle.matching.specs.Compare.{CornerIn, verdictSaid, verdictOf, answerIn, placeSaid, windowSaid, Placed}
 
-module _ (cells rows columns patternCells height width row column : ℕ) where
-  abbrev bothGood : Bool
-  bothGood = both (goodCells cells rows columns) (goodCells patternCells height width)
+-- the window of a question's size at a corner
+abbrev pub placeOf : Question → ℕ → ℕ → WindowPlace
+placeOf q row column = record { columns = q .text .columns; row = row; column = column; height = q .pattern .rows; width = q .pattern .columns }
 
-  pub window-shape-refused : (n : ℕ) → n ≡ shapeThen bothGood rows columns height width 0 → 0 < n
-      → n ≡ windowNumber cells rows columns patternCells height width row column
-  unfolding windowNumber
-  window-shape-refused n e h = e ∙ sym (shape-refused bothGood rows columns height width _ (subst (λ (m : ℕ). 0 < m) e h))
+module _ (q : Question) (row column : ℕ) where
+  -- each number where its test fails and the earlier ones pass
+  pub place-stopped : (o : Outcome) (why : Refusal) → o ≡ Refused why → outcomeSaid o ≡ shapeSaid q → outcomeSaid o ≡ placeSaid q row column
+  unfolding placeSaid
+  place-stopped o why e d = then-stopped o why (shapeSaid q) _ e d
 
-  -- where 2, 3, 4 refuse nothing, the corner decides
-  window-after : shapeThen bothGood rows columns height width 0 ≡ 0
-      → windowNumber cells rows columns patternCells height width row column ≡ unless (cornerInside rows columns height width row column) 5 0
-  unfolding windowNumber
-  window-after z =
-      let p = shape-passed bothGood rows columns height width z in
-      shape-passes bothGood rows columns height width (p .0) (p .1) _
+  module _ (shape : shapeSaid q ≡ accepts []) where
+    pub place-refused : cornerInside (q .text .rows) (q .text .columns) (q .pattern .rows) (q .pattern .columns) row column ≡ false → refuses 5 [] ≡ placeSaid q row column
+    unfolding placeSaid
+    place-refused e = rw (shape, e)
 
-  pub window-corner-refused : shapeThen bothGood rows columns height width 0 ≡ 0 → cornerInside rows columns height width row column ≡ false
-      → 5 ≡ windowNumber cells rows columns patternCells height width row column
-  window-corner-refused z e = sym (window-after z ∙ rw e)
+    pub place-accepted : cornerInside (q .text .rows) (q .text .columns) (q .pattern .rows) (q .pattern .columns) row column ≡ true → accepts [] ≡ placeSaid q row column
+    unfolding placeSaid
+    place-accepted e = rw (shape, e)
 
-  pub window-accepted : shapeThen bothGood rows columns height width 0 ≡ 0 → cornerInside rows columns height width row column ≡ true
-      → 0 ≡ windowNumber cells rows columns patternCells height width row column
-  window-accepted z e = sym (window-after z ∙ rw e)
+  -- the conditions that document 01 asks of the question
+  pub record Askable : Type 0 where
+    pub posed-is : Posed q
+    pub corner : CornerIn q row column
 
-  -- an accepted chain passed both its halves
-  pub window-chain : windowNumber cells rows columns patternCells height width row column ≡ 0
-      → (shapeThen bothGood rows columns height width 0 ≡ 0) × (unless (cornerInside rows columns height width row column) 5 0 ≡ 0)
-  unfolding windowNumber
-  window-chain e = shape-then-zero bothGood rows columns height width _ e
-
--- a question that is not refused has its window in the text, and a pattern of its size
-pub window-placed : (text pattern : List ℕ) (rows columns height width row column : ℕ)
-    → windowNumber (length text) rows columns (length pattern) height width row column ≡ 0
-    → Placed text (record { columns = columns; row = row; column = column; height = height; width = width }) × (length pattern ≡ height * width)
-window-placed text pattern rows columns height width row column e =
-    let z = window-chain (length text) rows columns (length pattern) height width row column e in
-    let s = shape-passed _ rows columns height width (z .0) in
-    let c = one-passed (cornerInside rows columns height width row column) 5 0 (omega arith) (z .1) in
-    let corner = says-true (corner-inside rows columns height width row column) (c .0) in
-    let counts = says-true (both-tested (good-cells (length text) rows columns) (good-cells (length pattern) height width)) (s .1) in
-    let sides = s .0 .sides in (
+  pub place-passed : (values : List ℕ) → placeSaid q row column ≡ accepts values → Askable
+  unfolding placeSaid
+  place-passed values e =
+      let a = then-both (shapeSaid q) (check (cornerInside (q .text .rows) (q .text .columns) (q .pattern .rows) (q .pattern .columns) row column) 5) values e in
       record {
-        some = sides .width-good .positive;
-        tall = sides .height-good .positive;
-        down = omega (arith, counts .0, mul-le-mul-right columns (corner .row-le));
-        across = corner .column-le;
-        small = omega (arith, counts .0, product-le rows columns 255 255 (sides .rows-good .small) (sides .columns-good .small));
-      },
-      counts .1,
-    )
+        posed-is = posed q (a .0 .0) (a .0 .1);
+        corner = says-true (corner-inside (q .text .rows) (q .text .columns) (q .pattern .rows) (q .pattern .columns) row column) (check-true _ 5 [] values (a .1));
+      }
 
--- the conditions that document 01 asks of the question
-pub record Askable (cells rows columns patternCells height width row column : ℕ) : Type 0 where
-  pub sides : Sides rows columns height width
-  pub cells-is : cells ≡ rows * columns
-  pub pattern-cells-is : patternCells ≡ height * width
-  pub fitting : Fits rows columns height width
-  pub corner : Corner rows columns height width row column
+  pub place-passes : Askable → placeSaid q row column ≡ accepts []
+  place-passes a =
+      sym (place-accepted (posed-said q (a .posed-is)) (is-true (corner-inside (q .text .rows) (q .text .columns) (q .pattern .rows) (q .pattern .columns) row column) (a .corner)))
 
--- everything that keeps them is accepted, and nothing else
-pub window-accepted-iff : (cells rows columns patternCells height width row column : ℕ)
-    → (windowNumber cells rows columns patternCells height width row column ≡ 0) ↔ Askable cells rows columns patternCells height width row column
-window-accepted-iff cells rows columns patternCells height width row column = (there, back)
-  where
-    counted : Tested ((cells ≡ rows * columns) × (patternCells ≡ height * width)) (both (goodCells cells rows columns) (goodCells patternCells height width))
-    counted = both-tested (good-cells cells rows columns) (good-cells patternCells height width)
-
-    there : windowNumber cells rows columns patternCells height width row column ≡ 0 → Askable cells rows columns patternCells height width row column
-    there e =
-        let z = window-chain cells rows columns patternCells height width row column e in
-        let s = shape-passed _ rows columns height width (z .0) in
-        let c = says-true counted (s .1) in
+  -- then the window lies in the text, and the pattern has its size
+  pub window-placed : Askable → Placed (q .text .cells) (placeOf q row column) × (length (q .pattern .cells) ≡ q .pattern .rows * q .pattern .columns)
+  window-placed a =
+      let s = a .posed-is .shape in
+      let sides = s .sized .sides in
+      let corner = a .corner in (
         record {
-          sides = s .0 .sides;
-          cells-is = c .0;
-          pattern-cells-is = c .1;
-          fitting = s .0 .fitting;
-          corner = says-true (corner-inside rows columns height width row column) (one-passed (cornerInside rows columns height width row column) 5 0 (omega arith) (z .1) .0);
-        }
+          some = sides .width-good .positive;
+          tall = sides .height-good .positive;
+          down = omega (arith, s .cells-is, mul-le-mul-right (q .text .columns) (corner .row-le));
+          across = corner .column-le;
+          small = omega (arith, s .cells-is, product-le (q .text .rows) (q .text .columns) 255 255 (sides .rows-good .small) (sides .columns-good .small));
+        },
+        a .posed-is .size,
+      )
 
-    back : Askable cells rows columns patternCells height width row column → windowNumber cells rows columns patternCells height width row column ≡ 0
-    back a =
-        sym (window-accepted cells rows columns patternCells height width row column
-        (shape-passes _ rows columns height width (record { sides = a .sides; fitting = a .fitting }) (is-true counted (a .cells-is, a .pattern-cells-is)) 0)
-        (is-true (corner-inside rows columns height width row column) (a .corner)))
-
--- no number of this chain is above 5
-pub window-number-le : (cells rows columns patternCells height width row column : ℕ) → windowNumber cells rows columns patternCells height width row column ≤ 5
-unfolding windowNumber
-window-number-le cells rows columns patternCells height width row column =
-    shape-number-le (both (goodCells cells rows columns) (goodCells patternCells height width)) rows columns height width _ 5 (omega arith)
-    (one-le (cornerInside rows columns height width row column))
-  where
-    one-le : (t : Bool) → unless t 5 0 ≤ 5
-    one-le true = omega arith
-    one-le false = omega arith
+  -- everything that keeps the conditions is accepted, and nothing else
+  pub window-accepted-iff : ((values : List ℕ) × (windowSaid q row column ≡ accepts values)) ↔ Askable
+  unfolding windowSaid
+  window-accepted-iff = (
+    (λ e. let a = then-both (placeSaid q row column) (verdictSaid (verdictOf (answerIn q row column))) (e .0) (e .1) in place-passed (a .0 .0) (a .0 .1)),
+    (λ a. (saidValues (verdictSaid (verdictOf (answerIn q row column))), rw (place-passes a) (answered (answerIn q row column)))),
+  )
+    where
+      answered : (a : Answer) → verdictSaid (verdictOf a) ≡ accepts (saidValues (verdictSaid (verdictOf a)))
+      answered matched = refl
+      answered (mismatched alike earlier later) = refl

@@ -8,7 +8,7 @@ use native.Mathlib.Nat.{add-zero, suc-mul, mul-le-mul-right, le-mul-of-pos-right
 use native.Mathlib.Omega.{arith}
 use Rattle.view.specs.Inside.{CellInside}
 use Rattle.matching.specs.Compare.{cellsOf, Placed}
-use Rattle.matching.specs.declared.compare.WindowPlace.{WindowPlace}
+use Rattle.shapes.specs.declared.windows.WindowPlace.{WindowPlace}
 
 -- q rows of w and r cells more are position q w + r
 place-div : (w q r : ℕ) → r < w → (q * w + r) / w ≡ q

@@ -19,7 +19,7 @@ use Rattle.shapes.specs.Windows.{window-at}
 use Rattle.matching.specs.Compare.{patternAt, windowOf, cellsOf, Placed, noImages}
 use Rattle.matching.specs.Compare.Rows.{RowAt, rowStart, rows-behind, cells-fit, read-first, read-below, length-part, part-pattern, part-window}
 use Rattle.matching.specs.Compare.Scans.{Passed, passed-none, test-ends, passed-more, end-found, end-none, earlier-found, earlier-none}
-use Rattle.matching.specs.declared.compare.WindowPlace.{WindowPlace}
+use Rattle.shapes.specs.declared.windows.WindowPlace.{WindowPlace}
 
 -- ---- the scan of one row
 

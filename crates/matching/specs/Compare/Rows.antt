@@ -12,7 +12,7 @@ use lib.Seq.{getD-take, getD-drop}
 use Rattle.shapes.specs.Windows.{rowCells, row-cells-is, window-cell}
 use Rattle.view.specs.Inside.{RowInside}
 use Rattle.matching.specs.Compare.{patternAt, windowOf, cellsOf, Placed}
-use Rattle.matching.specs.declared.compare.WindowPlace.{WindowPlace}
+use Rattle.shapes.specs.declared.windows.WindowPlace.{WindowPlace}
 
 -- the part of a list that the code lends, from a place to n further on
 pub part-is : (l : List ℕ) (a n : ℕ) → take (a + n - a) (drop a l) ≡ take n (drop a l)

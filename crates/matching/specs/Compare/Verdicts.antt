@@ -1,18 +1,18 @@
 -- From the scan to the answer: verdict and bijection where it stopped and where it did not, and the whole answer refused and given.
 -- Assumes nothing.
-use mathlib.Core.Path.{_≡_, refl, sym, _∙_, ap, ap₂, subst}
+use mathlib.Core.Path.{_≡_, sym, _∙_, ap, ap₂}
 use mathlib.Core.List.{List, []}
-use Prim.Native.Nat.{ℕ, zero, suc, _*_, _≤_, _<_}
+use Prim.Native.Nat.{ℕ, _≤_, _<_}
 use native.Mathlib.Omega.{arith}
 use lib.Dec.{eqb}
-use lib.ListN.{length}
-use Rattle.theory.specs.Match.{earliest, firstEnd, Answer, matched, mismatched, mismatchEnding, answerOf, column}
-use Rattle.shapes.specs.Refusals.{numberOf, number-positive, no-values}
-use Rattle.shapes.specs.Windows.{windowAt}
+use Rattle.theory.specs.Match.{earliest, firstEnd, mismatchEnding, answerOf, column}
+use Rattle.shapes.specs.Said.{accepts, outcomeSaid}
+use Rattle.shapes.specs.Questions.{Question}
+use Rattle.shapes.specs.declared.refusals.Outcome.{Outcome}
+use Rattle.shapes.specs.declared.refusals.Outcome.the-variants.{Refused as RefusedOutcome}
 use Rattle.shapes.specs.declared.refusals.Refusal.{Refusal}
 use Rattle.mapping.specs.Bijections.{emptyBijection}
-use Rattle.matching.specs.Compare.{patternAt, verdictNumber, verdictValues, verdictOf, bijectionOf, windowNumber, valuesAfter, bijectionBeside, Answers}
-use Rattle.matching.specs.Compare.Accepted.{window-number-le}
+use Rattle.matching.specs.Compare.{verdictOf, bijectionOf, bijectionIn, answerIn, placeSaid, windowSaid, told, oneWindowOf}
 use Rattle.matching.specs.Compare.Scans.{end-le, answer-mismatch, answer-match}
 use Rattle.mapping.specs.declared.bijections.Bijection.{Bijection}
 use Rattle.matching.specs.declared.compare.Verdict.{Verdict}
@@ -45,33 +45,15 @@ module _ (m w : ℕ → ℕ) where
       ap₂ (λ (x y : List ℕ). record { forward = x; backward = y }) (df ∙ ap (column m w) all) (dg ∙ ap (column w m) all)
       ∙ sym (ap (bijectionOf m w n) (answer-match m w p n e l))
 
-values-refused : (n : ℕ) (a : Answer) → 0 < n → [] ≡ valuesAfter n a
-values-refused zero a h = absurd (omega arith)
-values-refused (suc n) a h = refl
+-- ---- the whole answer
 
-bijection-refused : (k : ℕ) (m w : ℕ → ℕ) (n : ℕ) → 0 < k → emptyBijection ≡ bijectionBeside k m w n
-bijection-refused zero m w n h = absurd (omega arith)
-bijection-refused (suc k) m w n h = refl
+module _ (q : Question) (row column : ℕ) where
+  pub told-refused : (o : Outcome) (why : Refusal) (b : Bijection) → o ≡ RefusedOutcome why → outcomeSaid o ≡ placeSaid q row column → b ≡ emptyBijection
+      → told (record { verdict = Refused why; bijection = b }) ≡ oneWindowOf q row column
+  unfolding oneWindowOf windowSaid
+  told-refused o why b e d f = rw (← d, e, f)
 
-number-accepted : (a : Answer) → verdictNumber (verdictOf a) ≡ 0
-number-accepted matched = refl
-number-accepted (mismatched s q p) = refl
-
-module _ (text : List ℕ) (rows columns : ℕ) (pattern : List ℕ) (height width row column : ℕ) where
-  pub answers-refused : (why : Refusal) (b : Bijection) → numberOf why ≡ windowNumber (length text) rows columns (length pattern) height width row column
-      → b ≡ emptyBijection → Answers text rows columns pattern height width row column (record { verdict = Refused why; bijection = b })
-  answers-refused why b e d =
-      let positive = subst (λ (n : ℕ). 0 < n) e (number-positive why) in
-      record { number = e; values = no-values why (subst (λ (n : ℕ). n ≤ 5) (sym e) (window-number-le (length text) rows columns (length pattern) height width row column)) ∙ values-refused _ _ positive; bijection = d ∙ bijection-refused _ _ _ _ positive }
-
-  pub answers-accepted : (r : WindowAnswer) → windowNumber (length text) rows columns (length pattern) height width row column ≡ 0
-      → r .verdict ≡ verdictOf (answerOf (patternAt pattern) (windowAt text columns row column width) (height * width))
-      → r .bijection ≡ bijectionBeside 0 (patternAt pattern) (windowAt text columns row column width) (height * width)
-      → Answers text rows columns pattern height width row column r
-  answers-accepted r z e d =
-      record {
-        number = ap verdictNumber e ∙ number-accepted (answerOf (patternAt pattern) (windowAt text columns row column width) (height * width)) ∙ sym z;
-        values = ap verdictValues e
-            ∙ sym (ap (λ (n : ℕ). valuesAfter n (answerOf (patternAt pattern) (windowAt text columns row column width) (height * width))) z);
-        bijection = d ∙ sym (ap (λ (n : ℕ). bijectionBeside n (patternAt pattern) (windowAt text columns row column width) (height * width)) z);
-      }
+  pub told-answered : (r : WindowAnswer) → placeSaid q row column ≡ accepts [] → r .verdict ≡ verdictOf (answerIn q row column)
+      → r .bijection ≡ bijectionIn q row column → told r ≡ oneWindowOf q row column
+  unfolding oneWindowOf windowSaid
+  told-answered r z e d = rw (z, e, d)

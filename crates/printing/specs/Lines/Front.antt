@@ -6,8 +6,8 @@ use Prim.Native.Nat.{ℕ, _+_, _*_, _≤_}
 use native.Mathlib.Omega.{arith}
 use lib.ListN.{length, take}
 use lib.Seq.{take-append-seam}
-use Rattle.listing.specs.Records.{written}
-use Rattle.listing.specs.Writing.{length-written}
+use Rattle.theory.specs.Written.{written}
+use Rattle.theory.specs.Written.{length-written}
 use Rattle.listing.specs.Entries.{bytesAll}
 use Rattle.listing.specs.declared.records.Record.{Record}
 use Rattle.printing.specs.Lines.{linesOf, refusalLine, Recorded, Printed}

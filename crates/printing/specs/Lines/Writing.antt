@@ -9,14 +9,16 @@ use native.Mathlib.Nat.{add-zero}
 use native.Mathlib.Omega.{arith}
 use lib.ListN.{length, getD, take, drop, set, length-append, length-drop, List·getD-append, drop-of-length-le}
 use lib.Seq.{drop-cons, drop-drop, getD-drop, take-append-seam, drop-append-seam}
-use Rattle.listing.specs.Records.{bytesOf, kindSize, written}
-use Rattle.listing.specs.Writing.{length-written, written-set}
-use Rattle.listing.specs.Reader.{sizeAt, readValues, cursorValues, Reads}
-use Rattle.listing.specs.Reading.{HasRecord, number-whole}
+use Rattle.theory.specs.Written.{written}
+use Rattle.listing.specs.Records.{bytesOf, kindSize}
+use Rattle.theory.specs.Written.{length-written, written-set}
+use Rattle.shapes.specs.Said.{Said, saidValues}
+use Rattle.listing.specs.Reader.{sizeAt, readSaid, Reads}
+use Rattle.listing.specs.Reading.{HasRecord, said-whole}
 use Rattle.listing.specs.Answers.{refused-none}
 use Rattle.listing.specs.Entries.{bytesAll}
 use Rattle.listing.specs.RoundTrip.{bytes-some, size-is}
-use Rattle.listing.specs.Pieces.{Left, left-all, left-room, left-less, left-none, left-long}
+use Rattle.theory.specs.Pieces.{Left, left-all, left-room, left-less, left-none, left-long}
 use Rattle.listing.specs.declared.records.Record.{Record}
 use Rattle.listing.specs.declared.reader.Cursor.{Cursor}
 use Rattle.listing.specs.declared.reader.Read.{Read}
@@ -104,8 +106,7 @@ module _ {whole : List ℕ} {stop : ℕ} (bytes output : List ℕ) (at i : ℕ) 
 module _ (listing : List ℕ) (at : ℕ) (has : HasRecord listing at) (q : Read) (reads : Reads listing at q) where
   pub whole-end : (r : Record) (next : Cursor) → q ≡ Whole r next → next .at ≡ at + sizeAt listing at
   whole-end r next e =
-      let values : readValues (Whole r next) ≡ cursorValues 0 listing at = ap readValues (sym e) ∙ reads .values ∙ ap (λ (n : ℕ). cursorValues n listing at) (number-whole listing at has) in
-      cc
+      ap (λ (x : Said). getD (saidValues x) 0 0) (ap readSaid (sym e) ∙ reads .said-is ∙ said-whole listing at has)
 
   pub no-refusal : (why : Refusal) → q ≡ Refused why → ⊥
   no-refusal why e = refused-none listing at why (rw e at reads) has

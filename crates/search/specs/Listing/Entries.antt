@@ -22,7 +22,7 @@ use Rattle.matching.specs.Compare.{patternAt, windowOf, cellsOf, Placed}
 use Rattle.matching.specs.Compare.Scans.{answer-mismatch, answer-match}
 use Rattle.matching.specs.Places.{PlacesOf, symbol-stands}
 use Rattle.matching.specs.Windows.{Small}
-use Rattle.matching.specs.declared.compare.WindowPlace.{WindowPlace}
+use Rattle.shapes.specs.declared.windows.WindowPlace.{WindowPlace}
 use Rattle.listing.specs.Records.{bytesOf}
 use Rattle.listing.specs.Entries.{bytesAll, bytes-one, pairsOf, pairs-ext, entryOf, entry-found, entry-refused, spoiledAt, mismatchRecord}
 use Rattle.listing.specs.declared.records.Record.{Record}

@@ -9,12 +9,13 @@ use Rattle.theory.specs.Test.{pick}
 use Rattle.theory.specs.Join.{joined}
 use Rattle.theory.specs.Count.{count, length-members}
 use Rattle.theory.specs.Match.{Answer, matched, mismatched, isMatch}
+use Rattle.shapes.specs.Questions.{Question}
 use Rattle.sets.specs.Symbols.{symbolsOf}
 use Rattle.grid.specs.Distinct.{contains, distinct}
 use Rattle.grid.specs.Distinct.Sets.{distinct-count}
 use Rattle.listing.specs.Entries.{entryOf, bytesAll, bytes-append, length-found, length-refused}
 use Rattle.listing.specs.Lengths.{length-joined, length-closing}
-use Rattle.flags.specs.Flags.{answerAt}
+use Rattle.matching.specs.Questions.{answerAt}
 use Rattle.search.specs.Listing.{entryOfWindow, foundIn, refusedIn, searchRecords, searchListing, neededLength}
 
 -- a pattern of bytes has as many symbols as it has different ones
@@ -27,22 +28,22 @@ pub length-entry : (row column width : ℕ) (symbols : List ℕ) (image : ℕ �
 length-entry row column width symbols image matched = length-found row column width symbols image
 length-entry row column width symbols image (mismatched side q p) = length-refused row column width symbols image side q p
 
-module _ (text : List ℕ) (columns : ℕ) (pattern : List ℕ) (height width : ℕ) where
+module _ (q : Question) where
   abbrev matchAt : ℕ → Bool
-  matchAt k = isMatch (answerAt text columns pattern height width k)
+  matchAt k = isMatch (answerAt q k)
 
-  length-window : (k : ℕ) → length (bytesAll (entryOfWindow text columns pattern height width k)) ≡ pick (matchAt k) (3 + 3 * length (symbolsOf pattern)) 7
+  length-window : (k : ℕ) → length (bytesAll (entryOfWindow q k)) ≡ pick (matchAt k) (3 + 3 * length (symbolsOf (q .pattern .cells))) 7
   unfolding entryOfWindow
-  length-window k = length-entry _ _ _ _ _ (answerAt text columns pattern height width k)
+  length-window k = length-entry _ _ _ _ _ (answerAt q k)
 
   -- the bytes of the first n windows
-  pub length-entries : (n : ℕ) → length (bytesAll (joined (entryOfWindow text columns pattern height width) n))
-      ≡ count matchAt n * (3 + 3 * length (symbolsOf pattern)) + 7 * count (λ k. not (matchAt k)) n
-  length-entries n = length-joined (entryOfWindow text columns pattern height width) matchAt (3 + 3 * length (symbolsOf pattern)) n (λ k h. length-window k)
+  pub length-entries : (n : ℕ) → length (bytesAll (joined (entryOfWindow q) n))
+      ≡ count matchAt n * (3 + 3 * length (symbolsOf (q .pattern .cells))) + 7 * count (λ k. not (matchAt k)) n
+  length-entries n = length-joined (entryOfWindow q) matchAt (3 + 3 * length (symbolsOf (q .pattern .cells))) n (λ k h. length-window k)
 
 -- the listing is as long as document 01 says
-pub length-listing : (text : List ℕ) (rows columns : ℕ) (pattern : List ℕ) (height width : ℕ) → ((k : ℕ) → getD pattern k 0 < 256)
-    → length (searchListing text rows columns pattern height width) ≡ neededLength text rows columns pattern height width
+pub length-listing : (q : Question) → ((k : ℕ) → getD (q .pattern .cells) k 0 < 256)
+    → length (searchListing q) ≡ neededLength q
 unfolding searchListing searchRecords neededLength foundIn refusedIn
-length-listing text rows columns pattern height width small =
-    rw (bytes-append, length-append, length-closing, length-entries text columns pattern height width, length-symbols pattern small)
+length-listing q small =
+    rw (bytes-append, length-append, length-closing, length-entries q, length-symbols (q .pattern .cells) small)

@@ -10,9 +10,10 @@ use Rattle.sets.specs.Symbols.{has, lowestOf, withoutSymbol}
 use Rattle.sets.specs.Symbols.Taken.{members-lowest, members-over, lowest-has, without-has}
 use Rattle.sets.specs.declared.symbols.Symbols.{Symbols}
 use Rattle.matching.specs.Compare.{cellsOf}
-use Rattle.matching.specs.declared.compare.WindowPlace.{WindowPlace}
-use Rattle.listing.specs.Records.{bytesOf, written}
-use Rattle.listing.specs.Pieces.{Left, left-room, left-less}
+use Rattle.shapes.specs.declared.windows.WindowPlace.{WindowPlace}
+use Rattle.theory.specs.Written.{written}
+use Rattle.listing.specs.Records.{bytesOf}
+use Rattle.theory.specs.Pieces.{Left, left-room, left-less}
 use Rattle.listing.specs.Entries.{bytesAll, bytes-none, bytes-cons, pairsOf, pairs-none, pairs-cons}
 use Rattle.listing.specs.declared.records.Record.the-variants.{Found, Pair}
 use Rattle.search.specs.Listing.Entries.{Standing, imagesAt, foundRecords}

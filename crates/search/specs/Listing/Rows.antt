@@ -13,7 +13,7 @@ use Rattle.shapes.specs.Windows.{window-at}
 use Rattle.matching.specs.Compare.{patternAt, windowOf, cellsOf, Placed}
 use Rattle.matching.specs.Compare.Rows.{RowAt, row-first, rows-behind, row-below, cells-fit, length-row, row-pattern, row-window}
 use Rattle.matching.specs.Compare.Scans.{Passed, end-found, end-none}
-use Rattle.matching.specs.declared.compare.WindowPlace.{WindowPlace}
+use Rattle.shapes.specs.declared.windows.WindowPlace.{WindowPlace}
 use Rattle.theory.specs.Older.{Older, older-next}
 use Rattle.search.specs.Listing.Columns.{imagesFrom, lent-none, Meets, PairsUp, pairs-already}
 

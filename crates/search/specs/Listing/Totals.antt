@@ -12,10 +12,11 @@ use borrow.Author.Tests.{eq-eqb, ne-eqb}
 use Rattle.theory.specs.Test.{pick}
 use Rattle.theory.specs.Count.{count, count-ext, count-le, count-not}
 use Rattle.theory.specs.Match.{isMatch}
-use Rattle.shapes.specs.Shapes.{windows}
-use Rattle.grid.specs.Counts.{across, down}
-use Rattle.grid.specs.declared.counts.Shape.{Shape}
-use Rattle.flags.specs.Flags.{windowFlag, answerAt}
+use Rattle.shapes.specs.Questions.{Question, asked, windowsOf}
+use Rattle.shapes.specs.Shapes.{across, down}
+use Rattle.shapes.specs.declared.shapes.Shape.{Shape}
+use Rattle.matching.specs.Questions.{answerAt}
+use Rattle.flags.specs.Flags.{windowFlag}
 use Rattle.flags.specs.Flags.Strips.{flagOf}
 use Rattle.search.specs.Listing.{foundIn, refusedIn}
 
@@ -62,21 +63,21 @@ flag-test false x e = ne-eqb x 1 (λ d. absurd (omega arith))
 
 module _ (text pattern : List ℕ) (s : Shape) (flags : List ℕ)
     (flags-are : (k : ℕ) → k < down s * across s → getD flags k 0 ≡ flagOf text pattern s k) where
-  match-test : (k : ℕ) → k < down s * across s → eqb (getD flags k 0) 1 ≡ isMatch (answerAt text (s .columns) pattern (s .height) (s .width) k)
+  match-test : (k : ℕ) → k < down s * across s → eqb (getD flags k 0) 1 ≡ isMatch (answerAt (asked text pattern s) k)
   unfolding windowFlag
-  match-test k h = flag-test (isMatch (answerAt text (s .columns) pattern (s .height) (s .width) k)) (getD flags k 0) (flags-are k h)
+  match-test k h = flag-test (isMatch (answerAt (asked text pattern s) k)) (getD flags k 0) (flags-are k h)
 
-  pub ones-found : ones flags (down s * across s) ≡ foundIn text (s .rows) (s .columns) pattern (s .height) (s .width)
+  pub ones-found : ones flags (down s * across s) ≡ foundIn (asked text pattern s)
   unfolding ones foundIn
   ones-found = count-ext _ _ (down s * across s) match-test
 
-  pub others-refused : others flags (down s * across s) ≡ refusedIn text (s .rows) (s .columns) pattern (s .height) (s .width)
+  pub others-refused : others flags (down s * across s) ≡ refusedIn (asked text pattern s)
   unfolding others refusedIn
   others-refused = count-ext _ _ (down s * across s) (λ k h. ap not (match-test k h))
 
 -- every window is found or refused
-pub found-refused : (text : List ℕ) (rows columns : ℕ) (pattern : List ℕ) (height width : ℕ)
-    → foundIn text rows columns pattern height width + refusedIn text rows columns pattern height width ≡ windows rows columns height width
+pub found-refused : (q : Question)
+    → foundIn q + refusedIn q ≡ windowsOf q
 unfolding foundIn refusedIn
-found-refused text rows columns pattern height width =
-    count-not (λ k. isMatch (answerAt text columns pattern height width k)) (windows rows columns height width)
+found-refused q =
+    count-not (λ k. isMatch (answerAt q k)) (windowsOf q)

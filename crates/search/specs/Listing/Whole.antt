@@ -2,23 +2,25 @@
 -- Assumes nothing.
 use mathlib.Core.Path.{_≡_, refl, sym, _∙_, ap, ap₂}
 use mathlib.Core.List.{List, _++_}
-use Prim.Native.Nat.{ℕ, _+_, _≤_}
+use Prim.Native.Nat.{ℕ, _+_, _*_, _≤_}
 use native.Mathlib.Nat.{zero-add}
 use native.Mathlib.Omega.{arith}
 use lib.ListN.{length}
 use Rattle.theory.specs.Join.{joined}
-use Rattle.shapes.specs.Shapes.{windows, product-le}
-use Rattle.shapes.specs.Refusals.{bufferAfter}
-use Rattle.grid.specs.declared.counts.Shape.{Shape}
-use Rattle.listing.specs.Records.{bytesOf, written}
-use Rattle.listing.specs.Pieces.{first-room, second-room, both-written}
+use Rattle.shapes.specs.Questions.{asked}
+use Rattle.shapes.specs.Shapes.{product-le, across, down}
+use Rattle.shapes.specs.Said.{overFront}
+use Rattle.shapes.specs.declared.shapes.Shape.{Shape}
+use Rattle.theory.specs.Written.{written}
+use Rattle.listing.specs.Records.{bytesOf}
+use Rattle.theory.specs.Pieces.{first-room, second-room, both-written}
 use Rattle.listing.specs.Entries.{bytes-append, bytes-one}
 use Rattle.listing.specs.declared.records.Record.the-variants.{Closing}
 use Rattle.search.specs.Listing.{entryOfWindow, foundIn, refusedIn, searchRecords, searchListing}
 use Rattle.search.specs.Listing.Windows.{entryBytes, windowBytes, Flagged}
 
 -- bytes written at a buffer's start
-written-front : (l xs : List ℕ) → written l 0 xs ≡ bufferAfter 0 xs l
+written-front : (l xs : List ℕ) → written l 0 xs ≡ overFront xs l
 unfolding written
 written-front l xs = rw (zero-add (length xs))
 
@@ -29,18 +31,18 @@ pattern-fits text pattern s flags f =
     omega (arith, f .size, product-le (s .height) (s .width) 255 255 (omega arith) (omega arith))
 
 module _ (text pattern : List ℕ) (s : Shape) (found refused : ℕ)
-    (f : found ≡ foundIn text (s .rows) (s .columns) pattern (s .height) (s .width))
-    (r : refused ≡ refusedIn text (s .rows) (s .columns) pattern (s .height) (s .width)) where
-  closing : searchListing text (s .rows) (s .columns) pattern (s .height) (s .width) ≡ windowBytes text pattern s ++ bytesOf (Closing found refused)
-  unfolding searchListing searchRecords entryBytes
+    (f : found ≡ foundIn (asked text pattern s))
+    (r : refused ≡ refusedIn (asked text pattern s)) where
+  closing : searchListing (asked text pattern s) ≡ windowBytes text pattern s ++ bytesOf (Closing found refused)
+  unfolding searchListing searchRecords entryBytes entryOfWindow
   closing =
-      bytes-append (joined (entryOfWindow text (s .columns) pattern (s .height) (s .width)) (windows (s .rows) (s .columns) (s .height) (s .width))) _
+      bytes-append (joined (entryOfWindow (asked text pattern s)) (down s * across s)) _
       ∙ ap (λ (xs : List ℕ). windowBytes text pattern s ++ xs)
-      (bytes-one (Closing (foundIn text (s .rows) (s .columns) pattern (s .height) (s .width)) (refusedIn text (s .rows) (s .columns) pattern (s .height) (s .width)))
+      (bytes-one (Closing (foundIn (asked text pattern s)) (refusedIn (asked text pattern s)))
       ∙ ap₂ (λ (a b : ℕ). bytesOf (Closing a b)) (sym f) (sym r))
 
-  module _ (old : List ℕ) (room : length (searchListing text (s .rows) (s .columns) pattern (s .height) (s .width)) ≤ length old) where
-    room-front : 0 + length (searchListing text (s .rows) (s .columns) pattern (s .height) (s .width)) ≤ length old
+  module _ (old : List ℕ) (room : length (searchListing (asked text pattern s)) ≤ length old) where
+    room-front : 0 + length (searchListing (asked text pattern s)) ≤ length old
     room-front = omega (arith, room)
 
     -- the windows find room
@@ -57,7 +59,7 @@ module _ (text pattern : List ℕ) (s : Shape) (found refused : ℕ)
 
       -- and then the listing is whole
       pub listing-whole : (last : List ℕ) → last ≡ written new at (bytesOf (Closing found refused))
-          → last ≡ bufferAfter 0 (searchListing text (s .rows) (s .columns) pattern (s .height) (s .width)) old
+          → last ≡ overFront (searchListing (asked text pattern s)) old
       listing-whole last e =
           both-written old 0 (windowBytes text pattern s) (bytesOf (Closing found refused)) _ closing room-front new at n at-front last (at + 5) e refl .1
-          ∙ written-front old (searchListing text (s .rows) (s .columns) pattern (s .height) (s .width))
+          ∙ written-front old (searchListing (asked text pattern s))

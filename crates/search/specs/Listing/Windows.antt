@@ -9,16 +9,17 @@ use native.Mathlib.Omega.{arith}
 use lib.ListN.{length, getD, length-append}
 use Rattle.theory.specs.Test.{Tested, holds, fails, le-tested}
 use Rattle.theory.specs.Join.{joined, joined-zero, joined-suc}
+use Rattle.shapes.specs.Questions.{ask}
 use Rattle.sets.specs.Symbols.{symbolSet}
-use Rattle.grid.specs.Counts.{ShapeOf, across, down}
-use Rattle.grid.specs.declared.counts.Shape.{Shape}
+use Rattle.shapes.specs.Shapes.{ShapeOf, across, down}
+use Rattle.shapes.specs.declared.shapes.Shape.{Shape}
 use Rattle.sets.specs.declared.symbols.Symbols.{Symbols}
 use Rattle.matching.specs.Places.{PlacesOf}
 use Rattle.matching.specs.Windows.{windowPlace, placed-window, small-window}
-use Rattle.matching.specs.declared.compare.WindowPlace.{WindowPlace}
-use Rattle.listing.specs.Records.{written}
-use Rattle.listing.specs.Writing.{length-written}
-use Rattle.listing.specs.Pieces.{written-none, both-written}
+use Rattle.shapes.specs.declared.windows.WindowPlace.{WindowPlace}
+use Rattle.theory.specs.Written.{written}
+use Rattle.theory.specs.Written.{length-written}
+use Rattle.theory.specs.Pieces.{written-none, both-written}
 use Rattle.listing.specs.Entries.{bytesAll, bytes-none, bytes-append}
 use Rattle.flags.specs.Flags.{windowFlag}
 use Rattle.flags.specs.Flags.Strips.{flagOf}
@@ -60,7 +61,7 @@ module _ (text pattern : List ℕ) (s : Shape) (flags : List ℕ) (symbols : Sym
 
 -- the bytes of the first k windows
 unfoldable pub entryBytes : List ℕ → ℕ → List ℕ → ℕ → ℕ → ℕ → List ℕ
-entryBytes text columns pattern height width k = bytesAll (joined (entryOfWindow text columns pattern height width) k)
+entryBytes text columns pattern height width k = bytesAll (joined (entryOfWindow (ask text 0 columns pattern height width)) k)
 
 -- and of all windows
 abbrev pub windowBytes : List ℕ → List ℕ → Shape → List ℕ
@@ -74,15 +75,15 @@ pub record Reached (text : List ℕ) (columns : ℕ) (pattern : List ℕ) (heigh
 module _ (text : List ℕ) (columns : ℕ) (pattern : List ℕ) (height width : ℕ) where
   bytes-zero : entryBytes text columns pattern height width 0 ≡ bytesAll []
   unfolding entryBytes
-  bytes-zero = ap bytesAll (joined-zero (entryOfWindow text columns pattern height width))
+  bytes-zero = ap bytesAll (joined-zero (entryOfWindow (ask text 0 columns pattern height width)))
 
   bytes-more : (k : ℕ) (v : WindowPlace) → v ≡ windowPlace columns height width k
       → entryBytes text columns pattern height width (k + 1) ≡ entryBytes text columns pattern height width k ++ bytesAll (entryAt text pattern v)
   unfolding entryBytes entryOfWindow
   bytes-more k v e =
       rw (e, add-one k)
-      (ap bytesAll (joined-suc (entryOfWindow text columns pattern height width) k)
-      ∙ bytes-append (joined (entryOfWindow text columns pattern height width) k) (entryOfWindow text columns pattern height width k))
+      (ap bytesAll (joined-suc (entryOfWindow (ask text 0 columns pattern height width)) k)
+      ∙ bytes-append (joined (entryOfWindow (ask text 0 columns pattern height width)) k) (entryOfWindow (ask text 0 columns pattern height width) k))
 
   bytes-longer : (k : ℕ) (v : WindowPlace) → v ≡ windowPlace columns height width k
       → length (entryBytes text columns pattern height width (k + 1)) ≡ length (entryBytes text columns pattern height width k) + length (bytesAll (entryAt text pattern v))

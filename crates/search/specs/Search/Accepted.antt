@@ -1,189 +1,153 @@
 -- The search's refusals in their order: each number where its test fails and the earlier ones pass, and what a search that is not refused has.
 -- Assumes nothing.
-use mathlib.Core.Path.{_≡_, refl, sym, _∙_, subst}
-use mathlib.Core.Bool.{Bool, true, false}
-use mathlib.Core.List.{List}
-use Prim.Native.Nat.{ℕ, _*_, _≤_, _<_}
-use native.Mathlib.Decide.{ℕ-discrete}
-use native.Mathlib.Omega.{arith}
+use mathlib.Core.Path.{_≡_, refl, sym, _∙_, ap}
+use mathlib.Core.Bool.{Bool}
+use mathlib.Core.List.{List, [], _∷_}
+use Prim.Native.Nat.{ℕ, _≤_, _<_}
 use lib.Dec.{leb}
-use lib.ListN.{length}
+use lib.ListN.{length, getD}
 use borrow.Author.Tests.{le-leb, lt-leb}
-use Rattle.theory.specs.Test.{both, Tested, both-tested, le-tested, says-true, is-true}
-use Rattle.shapes.specs.Refusals.{unless}
-use Rattle.shapes.specs.Shapes.{shapeThen, goodCells, good-cells, windows, shape-refused, shape-then-zero, shape-passed, shape-passes, one-passed}
-use Rattle.grid.specs.declared.counts.Shape.{Shape}
-use Rattle.flags.specs.Flags.{Room}
-use Rattle.search.specs.Listing.{neededLength}
-use Rattle.search.specs.Search.{roomThen, roomNumber, listingNumber, searchNumber}
-
--- the sides as one value
-abbrev pub sidesOf : ℕ → ℕ → ℕ → ℕ → Shape
-sidesOf rows columns height width = record { rows = rows; columns = columns; height = height; width = width }
-
--- a chain that is refused by its first two tests, whatever comes after
-two-refused : (a b : Bool) (m n after : ℕ) → 0 < unless a m (unless b n 0) → unless a m (unless b n after) ≡ unless a m (unless b n 0)
-two-refused true true m n after h = absurd (omega arith)
-two-refused true false m n after h = refl
-two-refused false b m n after h = refl
+use Rattle.theory.specs.Test.{both, Tested, both-tested, le-tested, says-true}
+use Rattle.shapes.specs.Said.{overFront, Said, accepts, refuses, _then_, check, saidValues, outcomeSaid, refusalSaid, then-stopped, then-both, check-passed, check-true, not-accepted}
+use Rattle.shapes.specs.Questions.{Question, shapeSaid, stripOf, windowsOf, posed, posed-said}
+use Rattle.shapes.specs.declared.refusals.Refusal.{Refusal}
+use Rattle.shapes.specs.declared.refusals.Outcome.{Outcome}
+use Rattle.shapes.specs.declared.refusals.Outcome.the-variants.{Refused}
+use Rattle.flags.specs.Flags.{Rooms, roomsOf, RoomFor}
+use Rattle.search.specs.Listing.{foundIn, refusedIn, neededLength, searchListing}
+use Rattle.search.specs.Search.{Lent, Done, roomSaid, listedSaid, searchSaid, listedOf, stopped, searchOf}
 
 -- ---- 2, 3, 4, 9, 10
 
-module _ (cells rows columns patternCells height width links counts flags : ℕ) where
-  abbrev bothGood : Bool
-  bothGood = both (goodCells cells rows columns) (goodCells patternCells height width)
-
-  abbrev linksGood : Bool
-  linksGood = leb (rows * width) links
-
+module _ (q : Question) (w : Rooms) where
   abbrev windowsGood : Bool
-  windowsGood = both (leb (windows rows columns height width) counts) (leb (windows rows columns height width) flags)
+  windowsGood = both (leb (windowsOf q) (w .counts)) (leb (windowsOf q) (w .flags))
 
-  windows-tested : Tested ((windows rows columns height width ≤ counts) × (windows rows columns height width ≤ flags)) windowsGood
-  windows-tested = both-tested (le-tested (windows rows columns height width) counts) (le-tested (windows rows columns height width) flags)
+  windows-tested : Tested ((windowsOf q ≤ w .counts) × (windowsOf q ≤ w .flags)) windowsGood
+  windows-tested = both-tested (le-tested (windowsOf q) (w .counts)) (le-tested (windowsOf q) (w .flags))
 
-  abbrev thenRoom : ℕ → ℕ
-  thenRoom after = unless linksGood 9 (unless windowsGood 10 after)
+  -- refused by the shape
+  pub room-stopped : (o : Outcome) (why : Refusal) → o ≡ Refused why → outcomeSaid o ≡ shapeSaid q → outcomeSaid o ≡ roomSaid q w
+  unfolding roomSaid
+  room-stopped o why e d = then-stopped o why (shapeSaid q) _ e d
 
-  -- where 2, 3, 4 refuse nothing, the buffers decide
-  pub room-after-shape : shapeThen bothGood rows columns height width 0 ≡ 0 → (after : ℕ)
-      → roomThen cells rows columns patternCells height width links counts flags after ≡ thenRoom after
-  unfolding roomThen
-  room-after-shape z after =
-      let p = shape-passed bothGood rows columns height width z in
-      shape-passes bothGood rows columns height width (p .0) (p .1) _
+  module _ (shape : shapeSaid q ≡ accepts []) where
+    pub room-links-refused : w .links < stripOf q → refuses 9 [] ≡ roomSaid q w
+    unfolding roomSaid
+    room-links-refused h = rw (shape, lt-leb (stripOf q) (w .links) h)
 
-  -- where they refuse something, nothing else does
-  pub room-by-shape : 0 < shapeThen bothGood rows columns height width 0 → (after : ℕ)
-      → roomThen cells rows columns patternCells height width links counts flags after ≡ shapeThen bothGood rows columns height width 0
-  unfolding roomThen
-  room-by-shape h after = shape-refused bothGood rows columns height width _ h
+    module _ (links : stripOf q ≤ w .links) where
+      pub room-counts-refused : w .counts < windowsOf q → refuses 10 [] ≡ roomSaid q w
+      unfolding roomSaid
+      room-counts-refused h = rw (shape, le-leb (stripOf q) (w .links) links, lt-leb (windowsOf q) (w .counts) h)
 
-  pub room-shape-refused : (n : ℕ) → n ≡ shapeThen bothGood rows columns height width 0 → 0 < n
-      → n ≡ roomNumber cells rows columns patternCells height width links counts flags
-  room-shape-refused n e h = e ∙ sym (room-by-shape (subst (λ (m : ℕ). 0 < m) e h) 0)
+      pub room-flags-refused : windowsOf q ≤ w .counts → w .flags < windowsOf q → refuses 10 [] ≡ roomSaid q w
+      unfolding roomSaid
+      room-flags-refused k h =
+          rw (shape, le-leb (stripOf q) (w .links) links, le-leb (windowsOf q) (w .counts) k, lt-leb (windowsOf q) (w .flags) h)
 
-  module _ (shape-zero : shapeThen bothGood rows columns height width 0 ≡ 0) where
-    pub room-links-refused : links < rows * width → 9 ≡ roomNumber cells rows columns patternCells height width links counts flags
-    room-links-refused h = sym (room-after-shape shape-zero 0 ∙ rw (lt-leb (rows * width) links h))
+      pub room-accepted : windowsOf q ≤ w .counts → windowsOf q ≤ w .flags → accepts [] ≡ roomSaid q w
+      unfolding roomSaid
+      room-accepted k h =
+          rw (shape, le-leb (stripOf q) (w .links) links, le-leb (windowsOf q) (w .counts) k, le-leb (windowsOf q) (w .flags) h)
 
-    pub room-counts-refused : rows * width ≤ links → counts < windows rows columns height width
-        → 10 ≡ roomNumber cells rows columns patternCells height width links counts flags
-    room-counts-refused l h = sym (room-after-shape shape-zero 0 ∙ rw (le-leb (rows * width) links l, lt-leb (windows rows columns height width) counts h))
+  -- nothing is refused exactly if there is room
+  pub room-passed : (returned : List ℕ) → roomSaid q w ≡ accepts returned → RoomFor q w
+  unfolding roomSaid
+  room-passed returned e =
+      let a = then-both (shapeSaid q) (check (leb (stripOf q) (w .links)) 9 then check windowsGood 10) returned e in
+      let p = posed q (a .0 .0) (a .0 .1) in
+      let l = check-passed (leb (stripOf q) (w .links)) 9 [] (check windowsGood 10) returned (a .1) in
+      let k = says-true windows-tested (check-true windowsGood 10 [] returned (l .1)) in
+      record {
+        shape = p .shape;
+        size = p .size;
+        links-room = says-true (le-tested (stripOf q) (w .links)) (l .0);
+        counts-room = k .0;
+        flags-room = k .1;
+      }
 
-    pub room-flags-refused : rows * width ≤ links → windows rows columns height width ≤ counts → flags < windows rows columns height width
-        → 10 ≡ roomNumber cells rows columns patternCells height width links counts flags
-    room-flags-refused l k h =
-        sym (room-after-shape shape-zero 0
-        ∙ rw (le-leb (rows * width) links l, le-leb (windows rows columns height width) counts k, lt-leb (windows rows columns height width) flags h))
+  pub room-passes : RoomFor q w → roomSaid q w ≡ accepts []
+  room-passes r =
+      sym (room-accepted (posed-said q (record { shape = r .shape; size = r .size })) (r .links-room) (r .counts-room) (r .flags-room))
 
-    pub room-accepted : rows * width ≤ links → windows rows columns height width ≤ counts → windows rows columns height width ≤ flags
-        → 0 ≡ roomNumber cells rows columns patternCells height width links counts flags
-    room-accepted l k h =
-        sym (room-after-shape shape-zero 0
-        ∙ rw (le-leb (rows * width) links l, le-leb (windows rows columns height width) counts k, le-leb (windows rows columns height width) flags h))
+-- ---- the whole search
 
-  -- a chain that ends in 0 passed every test, and so did what comes after
-  room-chain : (after : ℕ) → roomThen cells rows columns patternCells height width links counts flags after ≡ 0
-      → Room cells patternCells (sidesOf rows columns height width) links counts flags × (after ≡ 0)
-  unfolding roomThen
-  room-chain after e =
-      let z = shape-then-zero bothGood rows columns height width (thenRoom after) e in
-      let s = shape-passed bothGood rows columns height width (z .0) in
-      let good = says-true (both-tested (good-cells cells rows columns) (good-cells patternCells height width)) (s .1) in
-      let l = one-passed linksGood 9 (unless windowsGood 10 after) (omega arith) (z .1) in
-      let w = one-passed windowsGood 10 after (omega arith) (l .1) in
-      let k = says-true windows-tested (w .0) in (
-        record {
-          shape = record { sized = s .0; cells-is = good .0 };
-          size = good .1;
-          links-room = says-true (le-tested (rows * width) links) (l .0);
-          counts-room = k .0;
-          flags-room = k .1;
-        },
-        w .1,
-      )
+module _ (q : Question) (l : Lent) where
+  -- refused before it begins, nothing is changed
+  pub search-stopped : (o : Outcome) (why : Refusal) → o ≡ Refused why → outcomeSaid o ≡ roomSaid q (roomsOf (l .work))
+      → record { said = refusalSaid why; lent = l } ≡ searchOf q l
+  unfolding searchOf
+  search-stopped o why e d = rw (← d, e)
 
-  -- room for everything, and then what comes after decides
-  pub room-passes : Room cells patternCells (sidesOf rows columns height width) links counts flags → (after : ℕ)
-      → roomThen cells rows columns patternCells height width links counts flags after ≡ after
-  unfolding roomThen
-  room-passes r after =
-      shape-passes bothGood rows columns height width (r .shape .sized)
-      (is-true (both-tested (good-cells cells rows columns) (good-cells patternCells height width)) (r .shape .cells-is, r .size)) (thenRoom after)
-      ∙ rw (le-leb (rows * width) links (r .links-room), is-true windows-tested (r .counts-room, r .flags-room))
+  -- else the listing decides
+  pub search-goes : roomSaid q (roomsOf (l .work)) ≡ accepts [] → listedOf q l ≡ searchOf q l
+  unfolding searchOf
+  search-goes e = rw e
 
-  pub room-passed : roomNumber cells rows columns patternCells height width links counts flags ≡ 0
-      → Room cells patternCells (sidesOf rows columns height width) links counts flags
-  room-passed e = room-chain 0 e .0
+-- a search that is accepted: there was room for everything, its values are those of the windows, and the listing is written
+pub record Lists (q : Question) (l : Lent) (found refused size : ℕ) : Type 0 where
+  pub room : RoomFor q (roomsOf (l .work))
+  pub found-is : found ≡ foundIn q
+  pub refused-is : refused ≡ refusedIn q
+  pub size-is : size ≡ neededLength q
+  pub fits : neededLength q ≤ length (l .listing)
+  pub written : searchOf q l .lent .listing ≡ overFront (searchListing q) (l .listing)
 
-  -- what is refused is refused whatever comes after
-  pub room-refused : 0 < roomNumber cells rows columns patternCells height width links counts flags → (after : ℕ)
-      → roomThen cells rows columns patternCells height width links counts flags after
-      ≡ roomNumber cells rows columns patternCells height width links counts flags
-  room-refused h after = go (ℕ-discrete (shapeThen bothGood rows columns height width 0) 0)
-    where
-      go : Dec (shapeThen bothGood rows columns height width 0 ≡ 0)
-          → roomThen cells rows columns patternCells height width links counts flags after
-          ≡ roomNumber cells rows columns patternCells height width links counts flags
-      go (yes z) =
-          room-after-shape z after
-          ∙ two-refused linksGood windowsGood 9 10 after (subst (λ (n : ℕ). 0 < n) (room-after-shape z 0) h)
-          ∙ sym (room-after-shape z 0)
-      go (no d) =
-          let positive : 0 < shapeThen bothGood rows columns height width 0 = omega arith in
-          room-by-shape positive after ∙ sym (room-by-shape positive 0)
+-- accepted values are equal one by one
+values-same : (a b c x y z : ℕ) → accepts (a ∷ b ∷ c ∷ []) ≡ accepts (x ∷ y ∷ z ∷ []) → (a ≡ x) × (b ≡ y) × (c ≡ z)
+values-same a b c x y z e =
+    let v : a ∷ b ∷ c ∷ [] ≡ x ∷ y ∷ z ∷ [] = ap saidValues e in
+    (ap (λ (l : List ℕ). getD l 0 0) v, ap (λ (l : List ℕ). getD l 1 0) v, ap (λ (l : List ℕ). getD l 2 0) v)
 
--- ---- 11
+module _ (q : Question) (l : Lent) (found refused size : ℕ) where
+  lists-by : (a : Said) → roomSaid q (roomsOf (l .work)) ≡ a → accepts (found ∷ refused ∷ size ∷ []) ≡ stopped a l (listedOf q l) .said
+      → (stopped a l (listedOf q l) ≡ listedOf q l) × RoomFor q (roomsOf (l .work)) × (accepts (found ∷ refused ∷ size ∷ []) ≡ listedOf q l .said)
+  lists-by (accepts values) d e = (refl, room-passed q (roomsOf (l .work)) values d, e)
+  lists-by (refuses number values) d e = absurd (not-accepted number values _ (sym e))
 
--- the buffer is too short for the listing, and it is not
-pub listing-refused : (needed listing : ℕ) → listing < needed → 11 ≡ listingNumber needed listing
-listing-refused needed listing h = rw (lt-leb needed listing h)
+  pub lists : accepts (found ∷ refused ∷ size ∷ []) ≡ searchOf q l .said → Lists q l found refused size
+  unfolding searchOf listedOf listedSaid
+  lists e =
+      let r = lists-by (roomSaid q (roomsOf (l .work))) refl e in
+      let t = check-passed (leb (neededLength q) (length (l .listing))) 11 (neededLength q ∷ []) _ _ (sym (r .2)) in
+      let v = values-same found refused size (foundIn q) (refusedIn q) (neededLength q) (sym (t .1)) in
+      record {
+        room = r .1;
+        found-is = v .0;
+        refused-is = v .1;
+        size-is = v .2;
+        fits = says-true (le-tested (neededLength q) (length (l .listing))) (t .0);
+        written = ap (λ (d : Done). d .lent .listing) (r .0) ∙ rw (t .0);
+      }
 
-pub listing-accepted : (needed listing : ℕ) → needed ≤ listing → 0 ≡ listingNumber needed listing
-listing-accepted needed listing h = rw (le-leb needed listing h)
+  -- and what has room for everything is accepted
+  pub lists-all : RoomFor q (roomsOf (l .work)) → neededLength q ≤ length (l .listing) → searchOf q l .said ≡ accepts (foundIn q ∷ refusedIn q ∷ neededLength q ∷ [])
+  unfolding searchOf listedOf listedSaid
+  lists-all r h = rw (room-passes q (roomsOf (l .work)) r, le-leb (neededLength q) (length (l .listing)) h)
 
--- ---- the whole chain
+-- what a search says depends on its buffers' lengths alone
+pub said-is : (q : Question) (l : Lent) → searchOf q l .said ≡ searchSaid q (roomsOf (l .work)) (length (l .listing))
+unfolding searchOf searchSaid listedOf
+said-is q l = go (roomSaid q (roomsOf (l .work)))
+  where
+    go : (a : Said) → stopped a l (listedOf q l) .said ≡ a then listedSaid q (length (l .listing))
+    go (accepts values) = refl
+    go (refuses number values) = refl
 
-module _ (text : List ℕ) (rows columns : ℕ) (pattern : List ℕ) (height width links counts flags listing : ℕ) where
-  -- refused before the search begins
-  pub search-refused : 0 < roomNumber (length text) rows columns (length pattern) height width links counts flags
-      → searchNumber text rows columns pattern height width links counts flags listing
-      ≡ roomNumber (length text) rows columns (length pattern) height width links counts flags
-  unfolding searchNumber
-  search-refused h = room-refused (length text) rows columns (length pattern) height width links counts flags h _
+-- accepted, with room for everything; refused by 11; and back
+module _ (q : Question) (r : Rooms) (listing : ℕ) where
+  pub search-accepted : RoomFor q r → neededLength q ≤ listing → searchSaid q r listing ≡ accepts (foundIn q ∷ refusedIn q ∷ neededLength q ∷ [])
+  unfolding searchSaid listedSaid
+  search-accepted room h = rw (room-passes q r room, le-leb (neededLength q) listing h)
 
-  pub search-after : roomNumber (length text) rows columns (length pattern) height width links counts flags ≡ 0
-      → searchNumber text rows columns pattern height width links counts flags listing
-      ≡ listingNumber (neededLength text rows columns pattern height width) listing
-  unfolding searchNumber
-  search-after z =
-      room-passes (length text) rows columns (length pattern) height width links counts flags
-      (room-passed (length text) rows columns (length pattern) height width links counts flags z) _
+  pub search-short : RoomFor q r → listing < neededLength q → searchSaid q r listing ≡ refuses 11 (neededLength q ∷ [])
+  unfolding searchSaid listedSaid
+  search-short room h = rw (room-passes q r room, lt-leb (neededLength q) listing h)
 
-  -- a search that is accepted had room for everything, and everything that has it is accepted
-  pub search-passed : searchNumber text rows columns pattern height width links counts flags listing ≡ 0
-      → Room (length text) (length pattern) (sidesOf rows columns height width) links counts flags
-      × (neededLength text rows columns pattern height width ≤ listing)
-  unfolding searchNumber
-  search-passed e =
-      let p = room-chain (length text) rows columns (length pattern) height width links counts flags _ e in
-      let q = one-passed (leb (neededLength text rows columns pattern height width) listing) 11 0 (omega arith) (p .1) in
-      (p .0, says-true (le-tested (neededLength text rows columns pattern height width) listing) (q .0))
-
-  pub search-accepted : Room (length text) (length pattern) (sidesOf rows columns height width) links counts flags
-      → neededLength text rows columns pattern height width ≤ listing
-      → searchNumber text rows columns pattern height width links counts flags listing ≡ 0
-  unfolding searchNumber
-  search-accepted r h =
-      room-passes (length text) rows columns (length pattern) height width links counts flags r _
-      ∙ sym (listing-accepted (neededLength text rows columns pattern height width) listing h)
-
-  -- with room for everything but the listing it is refused by 11
-  pub search-short : Room (length text) (length pattern) (sidesOf rows columns height width) links counts flags
-      → listing < neededLength text rows columns pattern height width
-      → searchNumber text rows columns pattern height width links counts flags listing ≡ 11
-  unfolding searchNumber
-  search-short r h =
-      room-passes (length text) rows columns (length pattern) height width links counts flags r _
-      ∙ sym (listing-refused (neededLength text rows columns pattern height width) listing h)
+  pub search-passed : (values : List ℕ) → searchSaid q r listing ≡ accepts values → RoomFor q r × (neededLength q ≤ listing)
+  unfolding searchSaid listedSaid
+  search-passed values e =
+      let a = then-both (roomSaid q r) (listedSaid q listing) values e in
+      let b = check-passed (leb (neededLength q) listing) 11 (neededLength q ∷ []) (accepts (foundIn q ∷ refusedIn q ∷ neededLength q ∷ [])) values (a .1) in
+      (room-passed q r (a .0 .0) (a .0 .1), says-true (le-tested (neededLength q) listing) (b .0))

@@ -13,7 +13,7 @@ use Rattle.sets.specs.Symbols.{symbolsOf}
 use Rattle.grid.specs.Distinct.{contains}
 use Rattle.grid.specs.Distinct.Sets.{contains-none, contains-tested}
 use Rattle.matching.specs.Compare.{patternAt, windowOf, cellsOf}
-use Rattle.matching.specs.declared.compare.WindowPlace.{WindowPlace}
+use Rattle.shapes.specs.declared.windows.WindowPlace.{WindowPlace}
 use Rattle.listing.specs.Records.{bytesOf, spoiledBytes, kindSize}
 use Rattle.listing.specs.Reader.{bytesFrom}
 use Rattle.listing.specs.Reading.{size-found, size-alike-in-pattern, size-alike-in-window}

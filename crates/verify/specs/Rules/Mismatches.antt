@@ -9,7 +9,7 @@ use native.Mathlib.Omega.{arith}
 use Rattle.theory.specs.Test.{Tested, tested-iff, eq-tested, lt-tested, both-tested, not-tested}
 use Rattle.theory.specs.Match.{AlikeOnly, Mismatch}
 use Rattle.shapes.specs.Windows.{corner-row, corner-column}
-use Rattle.matching.specs.declared.compare.WindowPlace.{WindowPlace}
+use Rattle.shapes.specs.declared.windows.WindowPlace.{WindowPlace}
 use Rattle.listing.specs.Records.{spoiledBytes}
 use Rattle.listing.specs.Entries.{spoiledAt}
 use Rattle.claims.specs.Claims.{byteAt, alikeOnly, trueMismatch}

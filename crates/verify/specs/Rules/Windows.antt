@@ -14,15 +14,16 @@ use lib.ListN.{length, getD, length-append}
 use Rattle.theory.specs.Test.{Tested, holds, fails, is-true, says-true, eq-tested, lt-tested, both-tested}
 use Rattle.theory.specs.Join.{joined, joined-zero, joined-suc}
 use Rattle.theory.specs.Match.{isMatch}
-use Rattle.matching.specs.Compare.{patternAt, windowOf, cellsOf}
-use Rattle.matching.specs.Windows.{windowPlace}
+use Rattle.theory.specs.Bytes.{Bytes}
+use Rattle.shapes.specs.Questions.{Question}
+use Rattle.matching.specs.Compare.{patternOf, positions, windowOf, cellsOf}
 use Rattle.listing.specs.Records.{bytesOf}
 use Rattle.listing.specs.Reader.{bytesFrom}
 use Rattle.listing.specs.Reading.{size-closing, two-numbers}
 use Rattle.listing.specs.Entries.{bytesAll, bytes-none, bytes-append}
 use Rattle.listing.specs.declared.records.Record.the-variants.{Closing}
 use Rattle.claims.specs.Claims.{Course, goes, stops, onward, byteAt, stands}
-use Rattle.verify.specs.Check.{placeOf, entryFrom, windowsTo, standsFound, rightClosing, closingFrom}
+use Rattle.verify.specs.Check.{placeOf, placeIn, entryFrom, windowsTo, standsFound, rightClosing, closingFrom}
 use Rattle.verify.specs.Bytes.{Holds, holds-none, holds-both, holds-first, holds-second, holds-byte, holds-stands, stands-holds}
 use Rattle.verify.specs.Rules.{TrueOf, Entries, recordsAt, recordsTo}
 use Rattle.claims.specs.Passages.{goes-stops}
@@ -68,44 +69,43 @@ closing-complete listing found refused at h e =
 
 -- ---- window after window
 
-module _ (text : List ℕ) (columns : ℕ) (pattern : List ℕ) (height width : ℕ) (listing : List ℕ) (bytes : (k : ℕ) → getD pattern k 0 < 256)
-    (size : length pattern ≡ height * width) (some : 0 < width) where
+module _ (q : Question) (listing : List ℕ) (bytes : Bytes (q .pattern .cells)) (size : length (q .pattern .cells) ≡ positions q) (some : 0 < q .pattern .columns) where
   abbrev at-window : ℕ → Course
-  at-window k = windowsTo text columns pattern height width listing k
+  at-window k = windowsTo q listing k
 
   -- the entries that the walk finds
   unfoldable pub entriesRead : Entries
-  entriesRead = record { answer = λ k. answerRead width listing (placeOf (at-window k)); image = λ k. imageRead pattern listing (placeOf (at-window k)) }
+  entriesRead = record { answer = λ k. answerRead (q .pattern .columns) listing (placeOf (at-window k)); image = λ k. imageRead (q .pattern .cells) listing (placeOf (at-window k)) }
 
   abbrev pub bytesTo : Entries → ℕ → List ℕ
-  bytesTo e k = bytesAll (recordsTo pattern columns height width e k)
+  bytesTo e k = bytesAll (recordsTo q e k)
 
   records-none : (e : Entries) → bytesTo e 0 ≡ []
   unfolding recordsTo
-  records-none e = ap bytesAll (joined-zero (λ k. recordsAt pattern (windowPlace columns height width k) (e .image k) (e .answer k))) ∙ bytes-none
+  records-none e = ap bytesAll (joined-zero (λ k. recordsAt (q .pattern .cells) (placeIn q k) (e .image k) (e .answer k))) ∙ bytes-none
 
-  records-more : (e : Entries) (k : ℕ) → bytesTo e (suc k) ≡ bytesTo e k ++ bytesAll (recordsAt pattern (windowPlace columns height width k) (e .image k) (e .answer k))
+  records-more : (e : Entries) (k : ℕ) → bytesTo e (suc k) ≡ bytesTo e k ++ bytesAll (recordsAt (q .pattern .cells) (placeIn q k) (e .image k) (e .answer k))
   unfolding recordsTo
   records-more e k =
-      ap bytesAll (joined-suc (λ k. recordsAt pattern (windowPlace columns height width k) (e .image k) (e .answer k)) k)
-      ∙ bytes-append (joined (λ k. recordsAt pattern (windowPlace columns height width k) (e .image k) (e .answer k)) k) _
+      ap bytesAll (joined-suc (λ k. recordsAt (q .pattern .cells) (placeIn q k) (e .image k) (e .answer k)) k)
+      ∙ bytes-append (joined (λ k. recordsAt (q .pattern .cells) (placeIn q k) (e .image k) (e .answer k)) k) _
 
-  length-more : (e : Entries) (k : ℕ) → length (bytesTo e (suc k)) ≡ length (bytesTo e k) + length (bytesAll (recordsAt pattern (windowPlace columns height width k) (e .image k) (e .answer k)))
-  length-more e k = ap length (records-more e k) ∙ length-append (bytesTo e k) (bytesAll (recordsAt pattern (windowPlace columns height width k) (e .image k) (e .answer k)))
+  length-more : (e : Entries) (k : ℕ) → length (bytesTo e (suc k)) ≡ length (bytesTo e k) + length (bytesAll (recordsAt (q .pattern .cells) (placeIn q k) (e .image k) (e .answer k)))
+  length-more e k = ap length (records-more e k) ∙ length-append (bytesTo e k) (bytesAll (recordsAt (q .pattern .cells) (placeIn q k) (e .image k) (e .answer k)))
 
   -- entry k is true of window k
   abbrev pub TrueAt : Entries → ℕ → Type 0
-  TrueAt e k = TrueOf (patternAt pattern) (windowOf text (windowPlace columns height width k)) (cellsOf (windowPlace columns height width k)) (e .image k) (e .answer k)
+  TrueAt e k = TrueOf (patternOf q) (windowOf (q .text .cells) (placeIn q k)) (cellsOf (placeIn q k)) (e .image k) (e .answer k)
 
   -- the first k entries are true and stand there, and the next one begins at a place
   pub record Reached (e : Entries) (k at : ℕ) : Type 0 where
     pub at-is : at ≡ length (bytesTo e k)
     pub there : Holds listing 0 (bytesTo e k)
     pub trues : (j : ℕ) → j < k → TrueAt e j
-    pub kinds : (j : ℕ) → j < k → isMatch (e .answer j) ≡ standsFound text columns pattern height width listing j
+    pub kinds : (j : ℕ) → j < k → isMatch (e .answer j) ≡ standsFound q listing j
 
   -- one more
-  reached-more : (k at end : ℕ) → at-window k ≡ goes at → Reached entriesRead k at → entryFrom text pattern (windowPlace columns height width k) listing at ≡ goes end
+  reached-more : (k at end : ℕ) → at-window k ≡ goes at → Reached entriesRead k at → entryFrom (q .text .cells) (q .pattern .cells) (placeIn q k) listing at ≡ goes end
       → Reached entriesRead (suc k) end
   unfolding entriesRead standsFound
   reached-more k at end e r f =
@@ -116,10 +116,10 @@ module _ (text : List ℕ) (columns : ℕ) (pattern : List ℕ) (height width : 
         kinds = λ j h. kinds j (lt-tested j k) h;
       }
     where
-      read : EntryRight text pattern (windowPlace columns height width k) listing bytes size some at end (imageRead pattern listing at) (answerRead width listing at)
-      read = entry-sound text pattern (windowPlace columns height width k) listing bytes size some at end f
+      read : EntryRight (q .text .cells) (q .pattern .cells) (placeIn q k) listing bytes size some at end (imageRead (q .pattern .cells) listing at) (answerRead (q .pattern .columns) listing at)
+      read = entry-sound (q .text .cells) (q .pattern .cells) (placeIn q k) listing bytes size some at end f
 
-      here : EntryRight text pattern (windowPlace columns height width k) listing bytes size some at end (entriesRead .image k) (entriesRead .answer k)
+      here : EntryRight (q .text .cells) (q .pattern .cells) (placeIn q k) listing bytes size some at end (entriesRead .image k) (entriesRead .answer k)
       here = rw e read
 
       last : (j : ℕ) → (j < k → ⊥) → j < suc k → j ≡ k
@@ -129,7 +129,7 @@ module _ (text : List ℕ) (columns : ℕ) (pattern : List ℕ) (height width : 
       trues j (holds l) h = r .trues j l
       trues j (fails l) h = rw (last j l h) (here .is-true-of)
 
-      kinds : (j : ℕ) {t : Bool} → Tested (j < k) t → j < suc k → isMatch (entriesRead .answer j) ≡ standsFound text columns pattern height width listing j
+      kinds : (j : ℕ) {t : Bool} → Tested (j < k) t → j < suc k → isMatch (entriesRead .answer j) ≡ standsFound q listing j
       kinds j (holds l) h = r .kinds j l
       kinds j (fails l) h = rw (last j l h) (here .kind-is ∙ ap (stands listing 1) (sym (ap placeOf e)))
 
@@ -146,7 +146,7 @@ module _ (text : List ℕ) (columns : ℕ) (pattern : List ℕ) (height width : 
       below : (j : ℕ) → j < 0 → ⊥
       below j h = omega arith
   windows-sound (suc k) end e =
-      let f = onward-goes (at-window k) (entryFrom text pattern (windowPlace columns height width k) listing) end e in
+      let f = onward-goes (at-window k) (entryFrom (q .text .cells) (q .pattern .cells) (placeIn q k) listing) end e in
       reached-more k (f .0) end (f .1) (windows-sound k (f .0) (f .1)) (f .2)
 
   -- the entries of the first k windows stand where the listing begins, if those of more windows do
@@ -167,16 +167,16 @@ module _ (text : List ℕ) (columns : ℕ) (pattern : List ℕ) (height width : 
   windows-complete e n t trues (suc k) h =
       let ih = windows-complete e n t trues k (omega arith) in
       let two = holds-second listing 0 (bytesTo e k) _ (rw (records-more e k) at (fewer e n (suc k) h t)) in
-      let c = entry-complete text pattern (windowPlace columns height width k) listing bytes size some (length (bytesTo e k)) (e .image k) (e .answer k) (trues k h)
+      let c = entry-complete (q .text .cells) (q .pattern .cells) (placeIn q k) listing bytes size some (length (bytesTo e k)) (e .image k) (e .answer k) (trues k h)
       (rw (zero-add (length (bytesTo e k))) at two) in
       rw ih (c .0 ∙ ap goes (sym (length-more e k)))
 
   -- and the windows stand as the entries say
   pub kinds-complete : (e : Entries) (n : ℕ) → Holds listing 0 (bytesTo e n) → ((k : ℕ) → k < n → TrueAt e k) → (k : ℕ) → k < n
-      → standsFound text columns pattern height width listing k ≡ isMatch (e .answer k)
+      → standsFound q listing k ≡ isMatch (e .answer k)
   unfolding standsFound
   kinds-complete e n t trues k h =
       let two = holds-second listing 0 (bytesTo e k) _ (rw (records-more e k) at (fewer e n (suc k) h t)) in
       ap (λ (c : Course). stands listing 1 (placeOf c)) (windows-complete e n t trues k (omega arith))
-      ∙ entry-complete text pattern (windowPlace columns height width k) listing bytes size some (length (bytesTo e k)) (e .image k) (e .answer k) (trues k h)
+      ∙ entry-complete (q .text .cells) (q .pattern .cells) (placeIn q k) listing bytes size some (length (bytesTo e k)) (e .image k) (e .answer k) (trues k h)
       (rw (zero-add (length (bytesTo e k))) at two) .1

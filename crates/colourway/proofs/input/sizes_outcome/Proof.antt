@@ -5,9 +5,10 @@ use mathlib.Core.Bool.{true}
 use native.Mathlib.Omega.{arith}
 use borrow.Author.Tests.{not-true, not-false}
 use Prim.Native.Nat.{_*_}
-use Rattle.shapes.specs.Refusals.{refused-positive, accepted-zero}
+use mathlib.Core.List.{[]}
+use Rattle.shapes.specs.Said.{accepts, passed-said}
 use Rattle.shapes.specs.Shapes.{goodSides}
-use Rattle.colourway.specs.Program.{cellsThen}
+use Rattle.colourway.specs.Program.{countSaid}
 use Rattle.colourway.specs.Program.Sizes.{sides-refused, cells-small, cells-refused, size-refused, sizes-accepted}
 use borrow.Author.Needs.{needs}
 use Rattle.colourway.proofs.input.sizes_outcome.Statement.{statement}
@@ -19,8 +20,8 @@ good c = sym (c .before .good-sides .ensures) ∙ not-false _ (c .if1 .left)
 
 -- and so are the cells
 passed : (c : tie.After-enum-told) → let a = c .before .before .before .before .before .args in
-    cellsThen (a .rows * a .columns) (a .height * a .width) (a .given) 0 ≡ 0
-passed c = sym (c .before .before .cells-outcome .ensures) ∙ accepted-zero _ (c .enum-told .given .1)
+    countSaid (a .rows * a .columns) (a .height * a .width) (a .given) ≡ accepts []
+passed c = passed-said _ _ (c .enum-told .given .1) (c .before .before .cells-outcome .ensures)
 
 good-sides-requires : tie.Need-good-sides-requires
 good-sides-requires c κs = search needs
@@ -44,7 +45,7 @@ enum-told-2 : tie.Need-enum-told-2
 enum-told-2 c = search needs
 
 returns-2 : tie.Need-returns-2
-returns-2 c = cells-refused _ _ _ _ _ (good (c .before .before .before)) _ (c .before .before .cells-outcome .ensures) (refused-positive _ (c .enum-told2 .given .1))
+returns-2 c = cells-refused _ _ _ _ _ (good (c .before .before .before)) _ _ (c .enum-told2 .given .1) (c .before .before .cells-outcome .ensures)
 
 window-fits-requires : tie.Need-window-fits-requires
 window-fits-requires c κs = search needs

@@ -1,7 +1,7 @@
 -- `program::answer` meets its contract: refused by the input, its number is the program's; else what is searched is printed.
 -- Assumes nothing.
-use mathlib.Core.Path.{sym, _∙_}
-use Rattle.shapes.specs.Refusals.{accepted-zero}
+use mathlib.Core.List.{[]}
+use Rattle.shapes.specs.Said.{passed-said}
 use Rattle.colourway.specs.Program.Accepted.{input-passed}
 use Rattle.colourway.specs.Program.Searched.{counted, refused-before}
 use borrow.Author.Needs.{needs}
@@ -21,7 +21,7 @@ enum-told : tie.Need-enum-told
 enum-told c = search needs
 
 searched-output-requires : tie.Need-searched-output-requires
-searched-output-requires c κs = input-passed _ 0 (sym (c .before .before .input-outcome .ensures) ∙ accepted-zero _ (c .enum-told .given .1)) .0
+searched-output-requires c κs = input-passed _ [] (passed-said _ _ (c .enum-told .given .1) (c .before .before .input-outcome .ensures))
 
 returns : tie.Need-returns
 returns c = counted _ _ _ (refused-before _ _ _ (c .before .before .outcome .given .1) (c .before .before .before .before .input-outcome .ensures) _ _ (c .refused-output .ensures))

@@ -18,10 +18,10 @@ has-run : (s : tie.After-search) → Ran (now (entry s .args .input)) (s .search
 has-run s =
     let o = entry s in
     let e = s .search .ensures in
-    ran (now (o .args .input)) _ _ _ _ _ _ (o .pre)
+    ran (now (o .args .input)) _ _ _ (o .pre)
     (λ k. omega (arith, s .before .before .before .before .before .before .before .before .before .before .before .before .before .before .before .shared-slice-known .given k))
     (s .before .before .before .before .before .before .before .before .entries .ensures) (s .before .before .before .before .before .before .before .entries2 .ensures)
-    (s .before .before .before .before .before .before .no-flags .ensures) (s .before .before .before .before .before .listing-buffer .ensures) (e .0) (e .1 .1 .1 .1 .0)
+    (s .before .before .before .before .before .before .no-flags .ensures) (s .before .before .before .before .before .listing-buffer .ensures) (e .0)
 
 shared-slice-read-rows : tie.Need-shared-slice-read-rows
 shared-slice-read-rows c = search needs

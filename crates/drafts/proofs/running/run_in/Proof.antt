@@ -5,6 +5,7 @@ use native.Mathlib.Omega.{arith}
 use lib.Seq.{length-take-le}
 use borrow.Author.Needs.{needs}
 use denote.Ref.{now}
+use Rattle.shapes.specs.Questions.{ask}
 use Rattle.search.specs.Listing.{searchRecords}
 use Rattle.search.specs.Search.Outcome.{listed-fits, listed-bytes, listed-length, listed-inside}
 use Rattle.drafts.proofs.running.run_in.Statement.{statement}
@@ -29,8 +30,7 @@ slice-reshare-prefix-print-listing : tie.Need-slice-reshare-prefix-print-listing
 slice-reshare-prefix-print-listing c =
     let call = c .before .before .before .before .before .before .before .before in
     let a = call .before .before .before .before .before .before .before .before .args in
-    listed-inside (now (a .text)) (a .rows) (a .columns) (now (a .pattern)) (a .height) (a .width) _ _ _ (now (a .listing)) _ _ _ _ (c .before .answer .given .1) (call .search .ensures .0)
-    _ (call .search .ensures .1 .1 .1 .1 .0) (call .search .ensures .1 .1 .1 .1 .1)
+    listed-inside (ask (now (a .text)) (a .rows) (a .columns) (now (a .pattern)) (a .height) (a .width)) _ _ _ _ _ _ (c .before .answer .given .1) (call .search .ensures .0) (call .search .ensures .1 .1)
 
 slice-aggregate-print-listing : tie.Need-slice-aggregate-print-listing
 slice-aggregate-print-listing c = sym (length-take-le _ _ (slice-reshare-prefix-print-listing (c .before)))
@@ -42,16 +42,14 @@ print-listing-requires c κs =
     let a = o .args in
     let q = c .before .before .answer .given .1 in (
       record {
-        records = searchRecords (now (a .text)) (a .rows) (a .columns) (now (a .pattern)) (a .height) (a .width);
-        bytes-are = listed-bytes (now (a .text)) (a .rows) (a .columns) (now (a .pattern)) (a .height) (a .width) _ _ _ (now (a .listing)) _ _ _ _ q (call .search .ensures .0)
-            _ (call .search .ensures .1 .1 .1 .1 .0) (call .search .ensures .1 .1 .1 .1 .1);
+        records = searchRecords (ask (now (a .text)) (a .rows) (a .columns) (now (a .pattern)) (a .height) (a .width));
+        bytes-are = listed-bytes (ask (now (a .text)) (a .rows) (a .columns) (now (a .pattern)) (a .height) (a .width)) _ _ _ _ _ _ q (call .search .ensures .0) (call .search .ensures .1 .1);
       },
       omega (
         arith,
         o .pre,
-        listed-fits (now (a .text)) (a .rows) (a .columns) (now (a .pattern)) (a .height) (a .width) _ _ _ (now (a .listing)) _ _ _ _ q (call .search .ensures .0),
-        listed-length (now (a .text)) (a .rows) (a .columns) (now (a .pattern)) (a .height) (a .width) _ _ _ (now (a .listing)) _ _ _ _ q (call .search .ensures .0)
-            _ (call .search .ensures .1 .1 .1 .1 .0) (call .search .ensures .1 .1 .1 .1 .1),
+        listed-fits (ask (now (a .text)) (a .rows) (a .columns) (now (a .pattern)) (a .height) (a .width)) _ _ _ _ _ _ q (call .search .ensures .0),
+        listed-length (ask (now (a .text)) (a .rows) (a .columns) (now (a .pattern)) (a .height) (a .width)) _ _ _ _ _ _ q (call .search .ensures .0) (call .search .ensures .1 .1),
       ),
     )
 

@@ -1,9 +1,9 @@
 -- `compose` fixes the number and the bijection, of the bijections that the columns held; `write_answer` hands both over.
 -- Assumes nothing.
 use mathlib.Core.Path.{_≡_, _∙_, ap}
-use Rattle.mapping.specs.Bijections.{composeNumber}
+use Rattle.shapes.specs.Said.{saidNumber}
+use Rattle.mapping.specs.Bijections.{Renamed, composeOf}
 use Rattle.mapping.specs.declared.bijections.Bijection.{Bijection}
-use Rattle.mapping.specs.Bijections.{composeAfter}
 use borrow.Author.Needs.{needs}
 use Rattle.exports.proofs.bijections.colourway_bijection_compose.Statement.{statement}
 use Rattle.exports.proofs.bijections.colourway_bijection_compose.Tie as tie
@@ -29,8 +29,8 @@ returns c =
     let answer = c .before .before .before .compose .ensures in
     let held = c .before .before .before .before .bijection-in2 .ensures in
     let other = c .before .before .before .before .before .before .before .bijection-in .ensures in (
-      c .write-answer .ensures .0 ∙ answer .0 .number-is ∙ both-held composeNumber held other,
-      c .write-answer .ensures .1 ∙ answer .1 ∙ both-held composeAfter held other,
+      c .write-answer .ensures .0 ∙ ap (λ (r : Renamed). saidNumber (r .said)) (answer ∙ both-held composeOf held other),
+      c .write-answer .ensures .1 ∙ ap (λ (r : Renamed). r .bijection) (answer ∙ both-held composeOf held other),
     )
 
 pub colourway-bijection-compose-spec : {M : Type 1} → statement M

@@ -1,8 +1,8 @@
 -- `invert` fixes the number and the bijection, of the bijection that the columns held; `write_answer` hands both over.
 -- Assumes nothing.
 use mathlib.Core.Path.{_∙_, ap}
-use Rattle.mapping.specs.Bijections.{invertNumber}
-use Rattle.mapping.specs.Bijections.{invertAfter}
+use Rattle.shapes.specs.Said.{saidNumber}
+use Rattle.mapping.specs.Bijections.{Renamed, invertOf}
 use borrow.Author.Needs.{needs}
 use Rattle.exports.proofs.bijections.colourway_bijection_invert.Statement.{statement}
 use Rattle.exports.proofs.bijections.colourway_bijection_invert.Tie as tie
@@ -20,8 +20,8 @@ returns : tie.Need-returns
 returns c =
     let answer = c .before .before .before .invert .ensures in
     let held = c .before .before .before .before .bijection-in .ensures in (
-      c .write-answer .ensures .0 ∙ answer .0 .number-is ∙ ap invertNumber held,
-      c .write-answer .ensures .1 ∙ answer .1 ∙ ap invertAfter held,
+      c .write-answer .ensures .0 ∙ ap (λ (r : Renamed). saidNumber (r .said)) (answer ∙ ap invertOf held),
+      c .write-answer .ensures .1 ∙ ap (λ (r : Renamed). r .bijection) (answer ∙ ap invertOf held),
     )
 
 pub colourway-bijection-invert-spec : {M : Type 1} → statement M

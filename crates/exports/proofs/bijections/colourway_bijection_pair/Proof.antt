@@ -1,9 +1,9 @@
 -- `pair` fixes the number and the bijection, of the bijection that the columns held; `write_answer` hands both over.
 -- Assumes nothing.
 use mathlib.Core.Path.{_∙_, ap}
-use Rattle.mapping.specs.Bijections.{pairNumber}
+use Rattle.shapes.specs.Said.{saidNumber}
+use Rattle.mapping.specs.Bijections.{Renamed, pairOf}
 use Rattle.mapping.specs.declared.bijections.Bijection.{Bijection}
-use Rattle.mapping.specs.Bijections.{pairAfter}
 use borrow.Author.Needs.{needs}
 use Rattle.exports.proofs.bijections.colourway_bijection_pair.Statement.{statement}
 use Rattle.exports.proofs.bijections.colourway_bijection_pair.Tie as tie
@@ -22,8 +22,8 @@ returns c =
     let answer = c .before .before .before .pair .ensures in
     let held = c .before .before .before .before .bijection-in .ensures in
     let args = c .before .before .before .before .before .before .before .args in (
-      c .write-answer .ensures .0 ∙ answer .0 .number-is ∙ ap (λ (b : Bijection). pairNumber b (args .a) (args .c)) held,
-      c .write-answer .ensures .1 ∙ answer .1 ∙ ap (λ (b : Bijection). pairAfter b (args .a) (args .c)) held,
+      c .write-answer .ensures .0 ∙ ap (λ (r : Renamed). saidNumber (r .said)) (answer ∙ ap (λ (b : Bijection). pairOf b (args .a) (args .c)) held),
+      c .write-answer .ensures .1 ∙ ap (λ (r : Renamed). r .bijection) (answer ∙ ap (λ (b : Bijection). pairOf b (args .a) (args .c)) held),
     )
 
 pub colourway-bijection-pair-spec : {M : Type 1} → statement M

@@ -1,9 +1,10 @@
--- `checking::colourway_check` meets its contract: the check fixes number and values, and the totals are its values (`check-totals`).
+-- `checking::colourway_check` meets its contract: the check fixes number and values, and the totals are its values.
 -- Assumes nothing.
-use mathlib.Core.Path.{_∙_}
+use mathlib.Core.Path.{_∙_, ap}
 use borrow.Author.Needs.{needs}
 use denote.Ref.{now}
-use Rattle.values.specs.Checking.{check-totals}
+use Rattle.shapes.specs.Said.{Said, saidNumber}
+use Rattle.values.specs.Checking.{countsBy}
 use Rattle.exports.proofs.checking.colourway_check.Statement.{statement}
 use Rattle.exports.proofs.checking.colourway_check.Tie as tie
 
@@ -20,8 +21,8 @@ returns : tie.Need-returns
 returns c =
     let a = c .before .before .before .before .before .before .before .args in
     let e = c .before .before .before .check .ensures .0 in (
-      c .before .before .checked-number .ensures ∙ e .number-is,
-      c .checked-totals .ensures ∙ check-totals (now (a .text)) (a .rows) (a .columns) (now (a .pattern)) (a .height) (a .width) (now (a .listing)) _ (now (a .totals)) e,
+      c .before .before .checked-number .ensures ∙ ap saidNumber e,
+      c .checked-totals .ensures ∙ ap (λ (x : Said). countsBy x (now (a .totals))) e,
     )
 
 pub colourway-check-spec : {M : Type 1} → statement M

@@ -2,7 +2,8 @@
 -- Assumes nothing.
 use mathlib.Core.Path.{sym, _∙_}
 use denote.Ref.{now}
-use Rattle.values.specs.Compare.{window-bijection-kept, window-mismatch-kept, window-bijection-new, window-mismatch-new}
+use Rattle.shapes.specs.Questions.{ask}
+use Rattle.values.specs.Compare.{window-number, window-kept, window-new}
 use borrow.Author.Needs.{needs}
 use Rattle.exports.proofs.compare.colourway_one_window.Statement.{statement}
 use Rattle.exports.proofs.compare.colourway_one_window.Tie as tie
@@ -17,13 +18,9 @@ returns : tie.Need-returns
 returns c =
     let n = c .before in
     let a = n .before .before .before .before .before .args in
-    let number = n .verdict-number .ensures ∙ n .before .before .one-window .ensures .number in (
-      number,
-      (
-        window-bijection-kept (now (a .text)) (a .rows) (a .columns) (now (a .pattern)) (a .height) (a .width) (a .row) (a .column) _ (λ z. c .if1 .taken (number ∙ z)),
-        window-mismatch-kept (now (a .text)) (a .rows) (a .columns) (now (a .pattern)) (a .height) (a .width) (a .row) (a .column) _ (λ z. c .if1 .taken (number ∙ z)),
-      ),
-    )
+    let answers = n .before .before .one-window .ensures in
+    let k = window-kept (ask (now (a .text)) (a .rows) (a .columns) (now (a .pattern)) (a .height) (a .width)) (a .row) (a .column) (n .before .before .one-window .result) answers (λ z. c .if1 .taken (n .verdict-number .ensures ∙ z)) _ _ in
+    (n .verdict-number .ensures ∙ window-number (ask (now (a .text)) (a .rows) (a .columns) (now (a .pattern)) (a .height) (a .width)) (a .row) (a .column) (n .before .before .one-window .result) answers, (k .0, k .1))
 
 write-columns-requires : tie.Need-write-columns-requires
 write-columns-requires c κs = search needs
@@ -36,14 +33,9 @@ returns-2 c =
     let n = c .before .before .before .before .before in
     let a = n .before .before .before .before .before .args in
     let answers = n .before .before .one-window .ensures in
-    let number = n .verdict-number .ensures ∙ answers .number in
-    let accepted = sym number ∙ c .before .before .before .before .if1 .left in (
-      number,
-      (
-        window-bijection-new (now (a .text)) (a .rows) (a .columns) (now (a .pattern)) (a .height) (a .width) (a .row) (a .column) accepted _ answers _ _ (c .before .write-columns .ensures),
-        window-mismatch-new (now (a .text)) (a .rows) (a .columns) (now (a .pattern)) (a .height) (a .width) (a .row) (a .column) accepted _ answers _ _ (c .verdict-values .ensures),
-      ),
-    )
+    let accepted = sym (n .verdict-number .ensures) ∙ c .before .before .before .before .if1 .left in
+    let k = window-new (ask (now (a .text)) (a .rows) (a .columns) (now (a .pattern)) (a .height) (a .width)) (a .row) (a .column) (n .before .before .one-window .result) answers accepted _ _ _ _ (c .before .write-columns .ensures) (c .verdict-values .ensures) in
+    (n .verdict-number .ensures ∙ window-number (ask (now (a .text)) (a .rows) (a .columns) (now (a .pattern)) (a .height) (a .width)) (a .row) (a .column) (n .before .before .one-window .result) answers, (k .0, k .1))
 
 pub colourway-one-window-spec : {M : Type 1} → statement M
 colourway-one-window-spec =

@@ -3,7 +3,8 @@
 use mathlib.Core.Path.{sym, ap, _∙_}
 use borrow.Author.Needs.{needs}
 use denote.Ref.{now}
-use Rattle.listing.specs.Reader.{readNumber}
+use Rattle.shapes.specs.Said.{saidNumber}
+use Rattle.listing.specs.Reader.{readSaid}
 use Rattle.listing.specs.declared.reader.Read.{Read}
 use Rattle.values.specs.Reader.{fieldsAfter, nextAfter}
 use Rattle.exports.proofs.reader.colourway_read.Statement.{statement}
@@ -29,7 +30,7 @@ returns c =
     let a = c .before .before .before .before .before .before .before .args in
     let r = c .before .before .before .before .before .read .ensures in
     let is = c .before .before .before .answer .given .1 in (
-      sym (ap readNumber is) ∙ r .number,
+      sym (ap (λ (x : Read). saidNumber (readSaid x)) is) ∙ ap saidNumber (r .said-is),
       record {
         answer = c .before .before .before .before .before .read .result;
         reads = r;
@@ -43,7 +44,7 @@ returns-2 c =
     let a = c .before .before .before .before .before .before .before .args in
     let r = c .before .before .before .before .before .read .ensures in
     let is = c .before .before .before .answer2 .given .1 in (
-      c .refusal-number .ensures ∙ sym (ap readNumber is) ∙ r .number,
+      c .refusal-number .ensures ∙ sym (ap (λ (x : Read). saidNumber (readSaid x)) is) ∙ ap saidNumber (r .said-is),
       record {
         answer = c .before .before .before .before .before .read .result;
         reads = r;

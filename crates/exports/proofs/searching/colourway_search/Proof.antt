@@ -1,9 +1,11 @@
 -- `searching::colourway_search` meets its contract: the search fixes number, values and buffers, and the totals are its values (`answer-totals`).
 -- Assumes nothing.
-use mathlib.Core.Path.{_∙_}
+use mathlib.Core.Path.{_∙_, ap}
 use borrow.Author.Needs.{needs}
 use denote.Ref.{now}
-use Rattle.values.specs.Searching.{answer-totals}
+use Rattle.shapes.specs.Said.{saidNumber}
+use Rattle.search.specs.Search.{Done}
+use Rattle.values.specs.Searching.{totalsBy}
 use Rattle.exports.proofs.searching.colourway_search.Statement.{statement}
 use Rattle.exports.proofs.searching.colourway_search.Tie as tie
 
@@ -30,14 +32,10 @@ same-length-4 c = search needs
 
 returns : tie.Need-returns
 returns c =
-    let a = c .before .before .before .before .before .before .before .before .before .before .before .before .before .before .before .before .before .before .before .before .before .before .args in
-    let e = c .before .before .before .before .before .before .before .before .before .before .before .search .ensures in
-    let number = c .before .before .searched-number .ensures ∙ e .0 .number-is in (
-      number,
-      (
-        c .totals-in .ensures ∙ answer-totals _ _ (now (a .text)) (a .rows) (a .columns) (now (a .pattern)) (a .height) (a .width) _ (now (a .totals)) number (e .0),
-        (e .1 .0, (e .1 .1 .0, (e .1 .1 .1 .0, e .1 .1 .1 .1 .0))),
-      ),
+    let o = c .before .before .before .before .before .before .before .before .before .before .before .before .before .before .before .before .before .before .before .before .before .before in
+    let e = c .before .before .before .before .before .before .before .before .before .before .before .search .ensures .0 in (
+      c .before .before .searched-number .ensures ∙ ap (λ (d : Done). saidNumber (d .said)) e,
+      (c .totals-in .ensures ∙ ap (λ (d : Done). totalsBy (d .said) (now (o .args .totals))) e, ap (λ (d : Done). d .lent) e),
     )
 
 pub colourway-search-spec : {M : Type 1} → statement M

@@ -1,6 +1,7 @@
 -- `distinct_counts` fixes the outcome's number and the buffer, and `outcome_number` gives that number.
 -- Assumes nothing.
-use mathlib.Core.Path.{_∙_}
+use mathlib.Core.Path.{_∙_, ap}
+use Rattle.shapes.specs.Said.{saidNumber}
 use borrow.Author.Needs.{needs}
 use Rattle.exports.proofs.texts.colourway_distinct_counts.Statement.{statement}
 use Rattle.exports.proofs.texts.colourway_distinct_counts.Tie as tie
@@ -16,7 +17,7 @@ same-length c = search needs
 
 returns : tie.Need-returns
 returns c = (
-  c .outcome-number .ensures ∙ c .before .before .before .distinct-counts .ensures .0 .number-is,
+  c .outcome-number .ensures ∙ ap saidNumber (c .before .before .before .distinct-counts .ensures .0),
   c .before .before .before .distinct-counts .ensures .1,
 )
 

@@ -1,6 +1,7 @@
 -- `strip_links` fixes the outcome's number and the buffer, and `outcome_number` gives that number.
 -- Assumes nothing.
-use mathlib.Core.Path.{_∙_}
+use mathlib.Core.Path.{_∙_, ap}
+use Rattle.shapes.specs.Said.{saidNumber}
 use borrow.Author.Needs.{needs}
 use Rattle.exports.proofs.texts.colourway_strip_links.Statement.{statement}
 use Rattle.exports.proofs.texts.colourway_strip_links.Tie as tie
@@ -16,7 +17,7 @@ same-length c = search needs
 
 returns : tie.Need-returns
 returns c = (
-  c .outcome-number .ensures ∙ c .before .before .before .strip-links .ensures .0 .number-is,
+  c .outcome-number .ensures ∙ ap saidNumber (c .before .before .before .strip-links .ensures .0),
   c .before .before .before .strip-links .ensures .1,
 )
 

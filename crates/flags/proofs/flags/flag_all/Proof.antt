@@ -5,7 +5,7 @@ use native.Mathlib.Omega.{arith}
 use borrow.Author.Needs.{needs}
 use denote.Ref.{now}
 use Rattle.flags.specs.Flags.{pattern-small, strip-small}
-use Rattle.flags.specs.Flags.Steps.{counts-there, counts-long, flags-over, links-over}
+use Rattle.flags.specs.Flags.Steps.{counts-there, counts-long, counts-over, flags-over, links-over, marks-over}
 use Rattle.flags.specs.Flags.Own.{itself-shape}
 use Rattle.flags.proofs.flags.flag_all.Statement.{statement}
 use Rattle.flags.proofs.flags.flag_all.Tie as tie
@@ -87,13 +87,11 @@ returns c =
     let w = flagged (c .before .before .before) in
     let k = counted (asked (w .before)) in
     let a = entry k .args in
-    let r = entry k .pre in (
-      k .distinct-counts .ensures .1,
-      (
-        flags-over (now (a .text)) (now (a .pattern)) (a .s) (now (a .flags)) _ (let v = r .shape in omega arith) (r .flags-room) (w .flag-windows .ensures .0),
-        links-over _ (now (a .links)) _ _ (r .links-room) (w .flag-windows .ensures .1) (c .before .before .clear .ensures),
-      ),
-    )
+    let r = entry k .pre in
+    marks-over (now (a .text)) (now (a .pattern)) (a .s) _ _
+    (links-over _ (now (a .links)) _ _ (r .links-room) (w .flag-windows .ensures .1) (c .before .before .clear .ensures))
+    (counts-over (now (a .text)) (a .s) (now (a .counts)) _ (r .shape) (r .counts-room) (k .distinct-counts .ensures .1))
+    (flags-over (now (a .text)) (now (a .pattern)) (a .s) (now (a .flags)) _ (let v = r .shape in omega arith) (r .flags-room) (w .flag-windows .ensures .0))
 
 pub flag-all-spec : {M : Type 1} → statement M
 flag-all-spec =

@@ -7,7 +7,8 @@ use native.Mathlib.Numerals.{add-one}
 use lib.ListN.{length}
 use denote.Ref.{now}
 use Rattle.theory.specs.Store.{stored, stored-none, length-stored, stored-more}
-use Rattle.grid.specs.Counts.{across, down, place-lt, windows-small}
+use Rattle.shapes.specs.Shapes.{across, down}
+use Rattle.grid.specs.Counts.{place-lt, windows-small}
 use Rattle.flags.specs.Flags.{flagFrom, flag-at, strip-part, strip-small}
 use Rattle.flags.proofs.flags.flag_strip.Statement.{statement}
 use Rattle.flags.proofs.flags.flag_strip.Tie as tie

@@ -7,7 +7,7 @@ use native.Mathlib.Numerals.{add-one}
 use lib.ListN.{length}
 use denote.Ref.{now}
 use Rattle.theory.specs.Store.{storedRows, rows-none, length-rows, rows-more}
-use Rattle.grid.specs.Counts.{across, down}
+use Rattle.shapes.specs.Shapes.{across, down}
 use Rattle.flags.specs.Flags.Strips.{flagOf, ready-still}
 use Rattle.flags.specs.Flags.Links.{Kept, kept-same, kept-then}
 use Rattle.flags.proofs.flags.flag_windows.Statement.{statement}

@@ -6,7 +6,8 @@ use Prim.Native.Nat.{ℕ, _+_, _-_, _*_, _≤_, _<_}
 use lib.ListN.{getD}
 use borrow.Author.Count.{below-more}
 use Rattle.theory.specs.Test.{holds, fails}
-use Rattle.grid.specs.Counts.{across, down, place-lt, windows-small}
+use Rattle.shapes.specs.Shapes.{across, down}
+use Rattle.grid.specs.Counts.{place-lt, windows-small}
 use Rattle.flags.proofs.flags.wanted.Statement.{statement}
 use Rattle.flags.proofs.flags.wanted.Tie as tie
 

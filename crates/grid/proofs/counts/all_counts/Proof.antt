@@ -7,7 +7,8 @@ use native.Mathlib.Numerals.{add-one}
 use lib.ListN.{length}
 use denote.Ref.{now}
 use Rattle.theory.specs.Store.{storedRows, rows-none, length-rows, rows-more}
-use Rattle.grid.specs.Counts.{countOf, across, down}
+use Rattle.shapes.specs.Shapes.{across, down}
+use Rattle.grid.specs.Counts.{countOf}
 use Rattle.grid.proofs.counts.all_counts.Statement.{statement}
 use Rattle.grid.proofs.counts.all_counts.Tie as tie
 

@@ -8,7 +8,8 @@ use lib.ListN.{length}
 use denote.Ref.{now}
 use Rattle.theory.specs.Store.{stored, stored-none, length-stored, stored-more}
 use Rattle.grid.specs.Occurrences.{Tracks, occurrencesOf}
-use Rattle.grid.specs.Counts.{cellsOf, countOf, across, down, place-lt, windows-small, size-small, count-at}
+use Rattle.shapes.specs.Shapes.{across, down}
+use Rattle.grid.specs.Counts.{cellsOf, countOf, place-lt, windows-small, size-small, count-at}
 use Rattle.grid.proofs.counts.strip_counts.Statement.{statement}
 use Rattle.grid.proofs.counts.strip_counts.Tie as tie
 

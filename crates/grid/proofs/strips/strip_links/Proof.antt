@@ -1,20 +1,20 @@
 -- `strips::strip_links` meets its contract: refused, nothing is written; accepted, all rows stored are the whole table, each place once.
 -- Assumes nothing.
-use mathlib.Core.Path.{_≡_, sym, _∙_, subst}
-use Prim.Native.Nat.{ℕ, _<_}
+use mathlib.Core.Path.{_≡_, sym}
+use mathlib.Core.List.{[]}
 use denote.Ref.{now}
 use lib.ListN.{length}
-use Rattle.shapes.specs.Refusals.{refused-positive, accepted-zero, ends-plain, ends-accepted}
-use Rattle.grid.specs.Strips.{linksNumber, links-plain, links-kept}
+use Rattle.shapes.specs.Said.{accepts, passed-said}
+use Rattle.grid.specs.Strips.{linksSaid, links-kept}
 use Rattle.grid.specs.Strips.Rows.{strip-of, links-written}
 use borrow.Author.Needs.{needs}
 use Rattle.grid.proofs.strips.strip_links.Statement.{statement}
 use Rattle.grid.proofs.strips.strip_links.Tie as tie
 
 -- nothing is refused
-zero-number : (c : tie.After-enum-told) → let a = c .before .before .before .before .before .args in
-    linksNumber (length (now (a .text))) (a .rows) (a .columns) (a .width) (a .left) (length (now (a .links))) ≡ 0
-zero-number c = sym (c .before .before .strip-outcome .ensures) ∙ accepted-zero _ (c .enum-told .given .1)
+good : (c : tie.After-enum-told) → let a = c .before .before .before .before .before .args in
+    linksSaid (now (a .text)) (a .rows) (a .columns) (a .width) (a .left) (length (now (a .links))) ≡ accepts []
+good c = passed-said _ _ (c .enum-told .given .1) (c .before .before .strip-outcome .ensures)
 
 strip-outcome-requires : tie.Need-strip-outcome-requires
 strip-outcome-requires c κs = search needs
@@ -27,14 +27,14 @@ enum-told-2 c = search needs
 
 returns : tie.Need-returns
 returns c = (
-  ends-plain _ _ (c .before .before .strip-outcome .ensures) (links-plain _ _ _ _ _ _),
-  links-kept _ _ _ _ _ _ (subst (λ (n : ℕ). 0 < n) (c .before .before .strip-outcome .ensures) (refused-positive _ (c .enum-told2 .given .1))),
+  c .before .before .strip-outcome .ensures,
+  links-kept _ _ _ _ _ _ _ _ (c .enum-told2 .given .1) (c .before .before .strip-outcome .ensures),
 )
 
 link-rows-requires : tie.Need-link-rows-requires
 link-rows-requires c κs =
     let o = c .before .before .before .before .before .before in
-    strip-of (now (o .args .text)) (record { rows = o .args .rows; columns = o .args .columns; left = o .args .left; width = o .args .width }) _ (zero-number (c .before))
+    strip-of (now (o .args .text)) (record { rows = o .args .rows; columns = o .args .columns; left = o .args .left; width = o .args .width }) _ (good (c .before))
 
 same-length : tie.Need-same-length
 same-length c = search needs
@@ -42,7 +42,7 @@ same-length c = search needs
 returns-2 : tie.Need-returns-2
 returns-2 c =
     let o = c .before .before .before .before .before .before .before .before .before in
-    (ends-accepted _ (sym (zero-number (c .before .before .before .before))), links-written (now (o .args .text)) (record { rows = o .args .rows; columns = o .args .columns; left = o .args .left; width = o .args .width }) _ _ (zero-number (c .before .before .before .before)) (c .before .before .link-rows .ensures))
+    (sym (good (c .before .before .before .before)), links-written (now (o .args .text)) (record { rows = o .args .rows; columns = o .args .columns; left = o .args .left; width = o .args .width }) _ _ (good (c .before .before .before .before)) (c .before .before .link-rows .ensures))
 
 pub strip-links-spec : {M : Type 1} → statement M
 strip-links-spec =

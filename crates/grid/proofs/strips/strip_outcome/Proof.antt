@@ -1,33 +1,26 @@
--- `strips::strip_outcome` meets its contract: 2, 3, 4 by the shape's own check, then 5, then 9.
+-- `strips::strip_outcome` meets its contract: 2, 3, 4 by the text's own check, then 5, then 9.
 -- Assumes nothing.
-use mathlib.Core.Path.{_≡_, sym, ap, _∙_}
+use mathlib.Core.Path.{sym, _∙_}
+use mathlib.Core.List.{[]}
 use native.Mathlib.Omega.{arith}
 use borrow.Author.Tests.{not-true, not-false}
-use mathlib.Core.Bool.{Bool}
-use Rattle.shapes.specs.Shapes.{Shaped, shapeThen, goodCells, text-passed, product-le}
-use Rattle.shapes.specs.Refusals.{outcomeNumber, refused-positive, accepted-zero}
-use Rattle.grid.specs.Strips.{links-shape-refused, links-column-refused, links-room-refused, links-accepted}
+use denote.Ref.{now}
+use lib.ListN.{length}
+use Rattle.shapes.specs.Said.{passed-said}
+use Rattle.shapes.specs.Questions.{text-shaped}
+use Rattle.shapes.specs.Shapes.{Shaped, product-le}
+use Rattle.grid.specs.Strips.{links-stopped, links-column-refused, links-room-refused, links-accepted}
 use borrow.Author.Needs.{needs}
 use Rattle.grid.proofs.strips.strip_outcome.Statement.{statement}
 use Rattle.grid.proofs.strips.strip_outcome.Tie as tie
 
--- what 2, 3, 4 give, in the contract's own terms
-named : (c : tie.After-shape-outcome) → let a = c .before .before .args in
-    outcomeNumber (c .shape-outcome .result) ≡ shapeThen (goodCells (a .cells) (a .rows) (a .columns)) (a .rows) (a .columns) (a .rows) (a .width) 0
-named c =
-    let a = c .before .before .args in
-    c .shape-outcome .ensures ∙ ap (λ (b : Bool). shapeThen b (a .rows) (a .columns) (a .rows) (a .width) 0) (c .before .good-cells .ensures)
-
--- the shape where they refuse nothing
+-- the shape where 2, 3, 4 refuse nothing
 shaped : (c : tie.After-enum-told) → let a = c .before .before .before .before .args in
-    Shaped (a .cells) (a .rows) (a .columns) (a .rows) (a .width)
-shaped c = text-passed _ _ _ _ _ (sym (named (c .before .before)) ∙ accepted-zero _ (c .enum-told .given .1))
+    Shaped (length (now (a .text))) (a .rows) (a .columns) (a .rows) (a .width)
+shaped c = text-shaped _ _ [] (passed-said _ _ (c .enum-told .given .1) (c .before .before .text-outcome .ensures))
 
-good-cells-requires : tie.Need-good-cells-requires
-good-cells-requires c κs = search needs
-
-shape-outcome-requires : tie.Need-shape-outcome-requires
-shape-outcome-requires c κs = search needs
+text-outcome-requires : tie.Need-text-outcome-requires
+text-outcome-requires c κs = search needs
 
 enum-told : tie.Need-enum-told
 enum-told c = search needs
@@ -36,10 +29,7 @@ enum-told-2 : tie.Need-enum-told-2
 enum-told-2 c = search needs
 
 returns : tie.Need-returns
-returns c =
-    links-shape-refused _ _ _ _ _ _ _
-    (named (c .before .before))
-    (refused-positive _ (c .enum-told2 .given .1))
+returns c = links-stopped _ _ _ _ _ _ _ _ (c .enum-told2 .given .1) (c .before .before .text-outcome .ensures)
 
 corner-inside-requires : tie.Need-corner-inside-requires
 corner-inside-requires c κs = search needs
@@ -60,8 +50,7 @@ pub strip-outcome-spec : {M : Type 1} → statement M
 strip-outcome-spec =
     tie.close
     (tie.spec
-    good-cells-requires
-    shape-outcome-requires
+    text-outcome-requires
     enum-told
     enum-told-2
     returns

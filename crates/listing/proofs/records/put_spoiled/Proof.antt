@@ -5,7 +5,7 @@ use native.Mathlib.Omega.{arith}
 use denote.Ref.{now}
 use lib.ListN.{length-set}
 use Rattle.listing.specs.Records.{spoiledBytes}
-use Rattle.listing.specs.Writing.{stores-written}
+use Rattle.theory.specs.Written.{stores-written}
 use borrow.Author.Needs.{needs}
 use Rattle.listing.proofs.records.put_spoiled.Statement.{statement}
 use Rattle.listing.proofs.records.put_spoiled.Tie as tie

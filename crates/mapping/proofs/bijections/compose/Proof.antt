@@ -42,8 +42,7 @@ unfolding composite
 returns-3 c =
     let first = c .before .before .before in
     let past2 = first .before .before .before .before .before .before .before in
-    let accepted = compose-accepted _ _ (first-agrees (past2 .before .before)) (second-agrees past2) in
-    (accepted .0, same-columns _ (composite _ _) (first .chain .ensures) (c .chain2 .ensures) ∙ accepted .1)
+    compose-accepted _ _ _ (same-columns _ (composite _ _) (first .chain .ensures) (c .chain2 .ensures)) (first-agrees (past2 .before .before)) (second-agrees past2)
 
 pub compose-spec : {M : Type 1} → statement M
 compose-spec =

@@ -1,20 +1,28 @@
 -- `compare::one_window` meets its contract: refused as its outcome says, or answered by comparing.
 -- Assumes nothing.
-use mathlib.Core.Path.{_≡_, sym, ap, _∙_}
-use lib.ListN.{length}
+use mathlib.Core.Path.{_≡_}
+use mathlib.Core.List.{[]}
 use denote.Ref.{now}
-use Rattle.shapes.specs.Refusals.{outcomeNumber, accepted-zero}
-use Rattle.matching.specs.Compare.{windowNumber}
-use Rattle.matching.specs.Compare.Accepted.{window-placed}
-use Rattle.matching.specs.Compare.Verdicts.{answers-refused, answers-accepted}
+use Rattle.shapes.specs.Said.{accepts, passed-said}
+use Rattle.shapes.specs.Questions.{Question, ask}
+use Rattle.matching.specs.Compare.{placeSaid}
+use Rattle.matching.specs.Compare.Accepted.{place-passed, window-placed}
+use Rattle.matching.specs.Compare.Verdicts.{told-refused, told-answered}
 use borrow.Author.Needs.{needs}
 use Rattle.matching.proofs.compare.one_window.Statement.{statement}
 use Rattle.matching.proofs.compare.one_window.Tie as tie
 
+-- the question
+abbrev asking : tie.Start → Question
+asking o = let a = o .args in ask (now (a .text)) (a .rows) (a .columns) (now (a .pattern)) (a .height) (a .width)
+
+-- where the call begins
+abbrev entry : tie.After-window-outcome → tie.Start
+entry c = c .before .before .before
+
 -- nothing is refused
-zero-number : (c : tie.After-enum-told) → let a = c .before .before .before .before .before .args in
-    windowNumber (length (now (a .text))) (a .rows) (a .columns) (length (now (a .pattern))) (a .height) (a .width) (a .row) (a .column) ≡ 0
-zero-number c = sym (c .before .before .window-outcome .ensures) ∙ accepted-zero _ (c .enum-told .given .1)
+good : (c : tie.After-enum-told) → let o = entry (c .before .before) in placeSaid (asking o) (o .args .row) (o .args .column) ≡ accepts []
+good c = passed-said _ _ (c .enum-told .given .1) (c .before .before .window-outcome .ensures)
 
 window-outcome-requires : tie.Need-window-outcome-requires
 window-outcome-requires c κs = search needs
@@ -30,20 +38,18 @@ enum-told c = search needs
 
 compare-requires : tie.Need-compare-requires
 compare-requires c κs =
-    let a = c .before .before .before .before .before .args in
-    window-placed (now (a .text)) (now (a .pattern)) (a .rows) (a .columns) (a .height) (a .width) (a .row) (a .column) (zero-number c)
+    let o = entry (c .before .before) in
+    window-placed (asking o) (o .args .row) (o .args .column) (place-passed (asking o) (o .args .row) (o .args .column) [] (good c))
 
 returns : tie.Need-returns
 returns c =
-    let a = c .before .before .before .before .before .before .before .args in
-    answers-refused (now (a .text)) (a .rows) (a .columns) (now (a .pattern)) (a .height) (a .width) (a .row) (a .column) _ _
-    (ap outcomeNumber (sym (c .before .before .outcome .given .1)) ∙ c .before .before .before .before .window-outcome .ensures)
-    (c .empty .ensures)
+    let o = entry (c .before .before .before .before) in
+    told-refused (asking o) (o .args .row) (o .args .column) _ _ _ (c .before .before .outcome .given .1) (c .before .before .before .before .window-outcome .ensures) (c .empty .ensures)
 
 returns-2 : tie.Need-returns-2
 returns-2 c =
-    let a = c .before .before .before .before .before .before .args in
-    answers-accepted (now (a .text)) (a .rows) (a .columns) (now (a .pattern)) (a .height) (a .width) (a .row) (a .column) _ (zero-number (c .before)) (c .compare .ensures .0) (c .compare .ensures .1)
+    let o = entry (c .before .before .before) in
+    told-answered (asking o) (o .args .row) (o .args .column) _ (good (c .before)) (c .compare .ensures .0) (c .compare .ensures .1)
 
 pub one-window-spec : {M : Type 1} → statement M
 one-window-spec =

@@ -6,8 +6,8 @@ use native.Mathlib.Omega.{arith}
 use Prim.Native.Nat.{_+_, _≤_}
 use lib.ListN.{length}
 use denote.Ref.{now}
-use Rattle.listing.specs.Writing.{written-set}
-use Rattle.listing.specs.Pieces.{first-room, second-room, both-written}
+use Rattle.theory.specs.Written.{written-set}
+use Rattle.theory.specs.Pieces.{first-room, second-room, both-written}
 use Rattle.printing.specs.Decimal.{decimal}
 use borrow.Author.Needs.{needs}
 use Rattle.printing.proofs.decimal.write_item.Statement.{statement}

@@ -5,9 +5,9 @@ use mathlib.Core.Path.{_∙_}
 use native.Mathlib.Omega.{arith}
 use Prim.Native.Nat.{_+_, _-_, _≤_}
 use lib.ListN.{length, drop}
-use Rattle.listing.specs.Records.{written}
-use Rattle.listing.specs.Writing.{length-written}
-use Rattle.listing.specs.Pieces.{Left, left-long}
+use Rattle.theory.specs.Written.{written}
+use Rattle.theory.specs.Written.{length-written}
+use Rattle.theory.specs.Pieces.{Left, left-long}
 use Rattle.printing.specs.Lines.Writing.{byte-room, byte-less, bytes-whole}
 use Rattle.printing.proofs.lines.write_bytes.Statement.{statement}
 use Rattle.printing.proofs.lines.write_bytes.Tie as tie

@@ -5,9 +5,9 @@ use native.Mathlib.Omega.{arith}
 use Prim.Native.Nat.{_+_, _-_, _<_}
 use lib.ListN.{length, drop}
 use denote.Ref.{now}
-use Rattle.listing.specs.Records.{written}
-use Rattle.listing.specs.Writing.{length-written}
-use Rattle.listing.specs.Pieces.{Left, left-all}
+use Rattle.theory.specs.Written.{written}
+use Rattle.theory.specs.Written.{length-written}
+use Rattle.theory.specs.Pieces.{Left, left-all}
 use Rattle.printing.specs.Lines.{lineOf}
 use Rattle.printing.specs.Lines.Writing.{number-room, number-less, last-room, last-whole}
 use Rattle.printing.proofs.lines.write_line.Statement.{statement}

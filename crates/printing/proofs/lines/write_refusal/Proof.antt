@@ -2,7 +2,7 @@
 -- Assumes nothing.
 use mathlib.Core.List.{[], _∷_, _++_}
 use denote.Ref.{now}
-use Rattle.listing.specs.Pieces.{first-room, second-room, both-written}
+use Rattle.theory.specs.Pieces.{first-room, second-room, both-written}
 use Rattle.printing.specs.Decimal.{decimal}
 use Rattle.printing.specs.Lines.{refusedWord}
 use Rattle.printing.specs.Lines.Writing.{refusal-parts}

@@ -3,7 +3,7 @@
 use borrow.Author.Needs.{needs}
 use denote.Ref.{now}
 use Rattle.listing.specs.Records.{bytesOf}
-use Rattle.listing.specs.Pieces.{first-room, second-room, both-written}
+use Rattle.theory.specs.Pieces.{first-room, second-room, both-written}
 use Rattle.listing.specs.declared.records.Record.the-variants.{Found}
 use Rattle.search.specs.Listing.Entries.{imagesAt}
 use Rattle.search.specs.Listing.Pairs.{pairBytes, found-bytes}

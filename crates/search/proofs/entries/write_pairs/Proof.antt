@@ -10,9 +10,9 @@ use Rattle.theory.specs.Count.{members}
 use Rattle.sets.specs.Symbols.{has, lowestOf}
 use Rattle.sets.specs.Symbols.Taken.{members-less}
 use Rattle.matching.specs.Compare.{cellsOf}
-use Rattle.listing.specs.Records.{written}
-use Rattle.listing.specs.Writing.{length-written}
-use Rattle.listing.specs.Pieces.{Left, left-all, left-long, left-none}
+use Rattle.theory.specs.Written.{written}
+use Rattle.theory.specs.Written.{length-written}
+use Rattle.theory.specs.Pieces.{Left, left-all, left-long, left-none}
 use Rattle.search.specs.Listing.Entries.{Standing, imagesAt}
 use Rattle.search.specs.Listing.Pairs.{pairBytes, pair-room, pair-less, pairs-over, lowest-stands, standing-less}
 use Rattle.search.proofs.entries.write_pairs.Statement.{statement}

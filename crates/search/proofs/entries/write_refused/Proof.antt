@@ -9,7 +9,8 @@ use lib.ListN.{length}
 use borrow.Author.Needs.{needs}
 use denote.Ref.{now}
 use Rattle.matching.specs.Compare.{cellsOf}
-use Rattle.listing.specs.Records.{bytesOf, written}
+use Rattle.theory.specs.Written.{written}
+use Rattle.listing.specs.Records.{bytesOf}
 use Rattle.listing.specs.Entries.{bytesAll}
 use Rattle.search.specs.Listing.{entryAt}
 use Rattle.search.specs.Listing.Entries.{end-inside, earlier-inside, refused-bytes}

@@ -7,7 +7,7 @@ use native.Mathlib.Omega.{arith}
 use lib.ListN.{length}
 use borrow.Author.Needs.{needs}
 use denote.Ref.{now}
-use Rattle.listing.specs.Records.{written}
+use Rattle.theory.specs.Written.{written}
 use Rattle.listing.specs.Entries.{bytesAll}
 use Rattle.listing.specs.declared.records.Record.{Record}
 use Rattle.search.specs.Listing.{entryAt}

@@ -1,15 +1,15 @@
 -- `search::search` meets its contract: refused as its outcome says, nothing is written; else the rest of the chain is 11 or nothing (`search_windows`).
 -- Assumes nothing.
-use mathlib.Core.Path.{_≡_, sym, ap, _∙_, subst}
-use Prim.Native.Nat.{ℕ, _<_}
+use mathlib.Core.Path.{_≡_, _∙_}
+use mathlib.Core.List.{[]}
 use native.Mathlib.Omega.{arith}
-use lib.ListN.{length}
 use denote.Ref.{now}
 use Rattle.theory.specs.Bytes.{Bytes}
-use Rattle.shapes.specs.Refusals.{outcomeNumber, accepted-zero, refused-positive}
-use Rattle.search.specs.Search.{roomNumber}
-use Rattle.search.specs.Search.Accepted.{room-passed}
-use Rattle.search.specs.Search.Answers.{searches-refused, searches-room, links-kept, counts-kept, flags-kept, listing-kept, links-written, counts-written, flags-written, listing-written}
+use Rattle.shapes.specs.Said.{accepts, passed-said}
+use Rattle.shapes.specs.Questions.{Question, ask}
+use Rattle.flags.specs.Flags.{roomsOf}
+use Rattle.search.specs.Search.{Lent, lend, roomSaid}
+use Rattle.search.specs.Search.Accepted.{room-passed, search-stopped, search-goes}
 use borrow.Author.Needs.{needs}
 use Rattle.search.proofs.search.search.Statement.{statement}
 use Rattle.search.proofs.search.search.Tie as tie
@@ -18,24 +18,22 @@ use Rattle.search.proofs.search.search.Tie as tie
 abbrev entry : tie.After-room-outcome → tie.Start
 entry c = c .before .before .before .before .before .before .before
 
--- the pattern is bytes, as its type says
-bytes : (c : tie.After-room-outcome) → Bytes (now (entry c .args .pattern))
-bytes c k = omega (arith, c .before .before .before .before .before .shared-slice-known2 .given k)
+-- what is asked, and what is lent
+abbrev asking : tie.Start → Question
+asking o = let a = o .args in ask (now (a .text)) (a .rows) (a .columns) (now (a .pattern)) (a .height) (a .width)
 
--- the number of 2, 3, 4, 9, 10 for the call's arguments
-abbrev number : tie.Start → ℕ
-number o =
-    let a = o .args in
-    roomNumber (length (now (a .text))) (a .rows) (a .columns) (length (now (a .pattern))) (a .height) (a .width)
-    (length (now (a .links))) (length (now (a .counts))) (length (now (a .flags)))
+abbrev lending : tie.Start → Lent
+lending o = let a = o .args in lend (now (a .links)) (now (a .counts)) (now (a .flags)) (now (a .listing))
 
--- nothing of them is refused
-zero-number : (c : tie.After-enum-told) → number (entry (c .before .before)) ≡ 0
-zero-number c = sym (c .before .before .room-outcome .ensures) ∙ accepted-zero _ (c .enum-told .given .1)
+-- text and pattern are bytes, as their types say
+bytes : (c : tie.After-room-outcome) → Bytes (now (entry c .args .text)) × Bytes (now (entry c .args .pattern))
+bytes c =
+    let k = c .before .before .before .before .before in
+    ((λ i. omega (arith, k .before .shared-slice-known .given i)), (λ i. omega (arith, k .shared-slice-known2 .given i)))
 
--- something is
-positive-number : (c : tie.After-outcome) → 0 < number (entry (c .before .before))
-positive-number c = subst (λ (n : ℕ). 0 < n) (c .before .before .room-outcome .ensures) (refused-positive _ (c .outcome .given .1))
+-- nothing of 2, 3, 4, 9, 10 is refused
+room-good : (c : tie.After-enum-told) → let o = entry (c .before .before) in roomSaid (asking o) (roomsOf (lending o .work)) ≡ accepts []
+room-good c = passed-said _ _ (c .enum-told .given .1) (c .before .before .room-outcome .ensures)
 
 room-outcome-requires : tie.Need-room-outcome-requires
 room-outcome-requires c κs = search needs
@@ -47,25 +45,12 @@ enum-told : tie.Need-enum-told
 enum-told c = search needs
 
 search-windows-requires : tie.Need-search-windows-requires
-search-windows-requires c κs = room-passed _ _ _ _ _ _ _ _ _ (zero-number (c .before .before .before .before))
+search-windows-requires c κs = room-passed _ _ _ (room-good (c .before .before .before .before))
 
 returns : tie.Need-returns
 returns c =
-    let a = entry (c .before .before .before) .args in
-    let p = positive-number (c .before) in (
-      searches-refused (now (a .text)) (a .rows) (a .columns) (now (a .pattern)) (a .height) (a .width) _ _ _ _ _
-          (ap outcomeNumber (sym (c .before .outcome .given .1)) ∙ c .before .before .before .room-outcome .ensures),
-      (
-        links-kept (now (a .text)) (a .rows) (a .columns) (now (a .pattern)) (a .height) (a .width) (now (a .links)) (now (a .counts)) (now (a .flags)) (now (a .listing)) p,
-        (
-          counts-kept (now (a .text)) (a .rows) (a .columns) (now (a .pattern)) (a .height) (a .width) (now (a .links)) (now (a .counts)) (now (a .flags)) (now (a .listing)) p,
-          (
-            flags-kept (now (a .text)) (a .rows) (a .columns) (now (a .pattern)) (a .height) (a .width) (now (a .links)) (now (a .counts)) (now (a .flags)) (now (a .listing)) p,
-            (listing-kept (now (a .text)) (a .rows) (a .columns) (now (a .pattern)) (a .height) (a .width) (now (a .links)) (now (a .counts)) (now (a .flags)) (now (a .listing)) p, bytes (c .before .before .before)),
-          ),
-        ),
-      ),
-    )
+    let o = entry (c .before .before .before) in
+    (search-stopped (asking o) (lending o) _ _ (c .before .outcome .given .1) (c .before .before .before .room-outcome .ensures), bytes (c .before .before .before))
 
 same-length : tie.Need-same-length
 same-length c = search needs
@@ -81,24 +66,9 @@ same-length-4 c = search needs
 
 returns-2 : tie.Need-returns-2
 returns-2 c =
-    let a = entry (c .before .before .before .before .before .before .before .before .before .before .before .before .before .before .before) .args in
-    let z = zero-number (c .before .before .before .before .before .before .before .before .before .before .before .before .before) in
-    let e = c .before .before .before .before .before .before .before .before .search-windows .ensures in (
-      searches-room (now (a .text)) (a .rows) (a .columns) (now (a .pattern)) (a .height) (a .width) _ _ _ _ _ z (e .0),
-      (
-        links-written (now (a .text)) (a .rows) (a .columns) (now (a .pattern)) (a .height) (a .width) (now (a .links)) (now (a .counts)) (now (a .flags)) (now (a .listing)) z _ (e .1 .0),
-        (
-          counts-written (now (a .text)) (a .rows) (a .columns) (now (a .pattern)) (a .height) (a .width) (now (a .links)) (now (a .counts)) (now (a .flags)) (now (a .listing)) z _ (e .1 .1 .0),
-          (
-            flags-written (now (a .text)) (a .rows) (a .columns) (now (a .pattern)) (a .height) (a .width) (now (a .links)) (now (a .counts)) (now (a .flags)) (now (a .listing)) z _ (e .1 .1 .1 .0),
-            (
-              listing-written (now (a .text)) (a .rows) (a .columns) (now (a .pattern)) (a .height) (a .width) (now (a .links)) (now (a .counts)) (now (a .flags)) (now (a .listing)) z _ (e .1 .1 .1 .1),
-              bytes (c .before .before .before .before .before .before .before .before .before .before .before .before .before .before .before),
-            ),
-          ),
-        ),
-      ),
-    )
+    let r = c .before .before .before .before .before .before .before .before .before .before .before .before .before .before .before in
+    let o = entry r in
+    (c .before .before .before .before .before .before .before .before .search-windows .ensures ∙ search-goes (asking o) (lending o) (room-good (c .before .before .before .before .before .before .before .before .before .before .before .before .before)), bytes r)
 
 pub search-spec : {M : Type 1} → statement M
 search-spec =

@@ -5,8 +5,10 @@ use native.Mathlib.Omega.{arith}
 use denote.Ref.{now}
 use Rattle.grid.specs.Counts.{windows-small}
 use Rattle.flags.specs.Flags.{pattern-small}
-use Rattle.search.specs.Search.Answers.{says-short, says-listed, short-kept, long-written}
-use Rattle.search.specs.Search.Steps.{Totalled, flags-long, flagged, totalled, listing-fits, counts-over}
+use Rattle.shapes.specs.Questions.{asked}
+use Rattle.search.specs.Search.{lend}
+use Rattle.search.specs.Search.Answers.{says-short, says-listed}
+use Rattle.search.specs.Search.Steps.{Totalled, marked-flags, flags-long, flagged, totalled, listing-fits}
 use borrow.Author.Needs.{needs}
 use Rattle.search.proofs.search.search_windows.Statement.{statement}
 use Rattle.search.proofs.search.search_windows.Tie as tie
@@ -22,7 +24,7 @@ totals c =
     let o = entry (c .before) in
     let a = o .args in
     let e = c .totals-of .ensures in
-    totalled (now (a .text)) (now (a .pattern)) (a .s) _ _ (now (a .flags)) _ (o .pre) (c .before .before .before .before .before .before .before .before .flag-all .ensures .1 .0) _ _ _ (e .0) (e .1 .0) (e .1 .1)
+    totalled (now (a .text)) (now (a .pattern)) (a .s) _ _ (now (a .flags)) _ (o .pre) (marked-flags _ _ _ (c .before .before .before .before .before .before .before .before .flag-all .ensures)) _ _ _ (e .0) (e .1 .0) (e .1 .1)
 
 add-n : tie.Need-add-n
 add-n c = search needs
@@ -48,7 +50,7 @@ totals-of-requires c κs =
     let a = o .args in (
       pattern-small _ _ _ _ _ _ (o .pre),
       omega (arith, windows-small (a .s) _ (o .pre .shape)),
-      omega (arith, o .pre .flags-room, flags-long (now (a .text)) (now (a .pattern)) (a .s) _ _ (now (a .flags)) _ (o .pre) (c .before .before .before .before .before .before .before .flag-all .ensures .1 .0)),
+      omega (arith, o .pre .flags-room, flags-long (now (a .text)) (now (a .pattern)) (a .s) _ _ (now (a .flags)) _ (o .pre) (marked-flags _ _ _ (c .before .before .before .before .before .before .before .flag-all .ensures))),
     )
 
 same-length : tie.Need-same-length
@@ -65,23 +67,15 @@ returns c =
     let o = entry (c .before .before) in
     let a = o .args in
     let t = totals (c .before) in
-    let e = c .before .before .before .before .before .before .before .before .before .flag-all .ensures in (
-      says-short (now (a .text)) (a .s .rows) (a .s .columns) (now (a .pattern)) (a .s .height) (a .s .width) _ _ (t .size-is) (c .if1 .taken),
-      (
-        e .1 .1,
-        (
-          counts-over (now (a .text)) _ (a .s) _ (now (a .counts)) _ _ (o .pre) (e .0),
-          (e .1 .0, short-kept _ _ _ (now (a .listing)) (t .size-is) (c .if1 .taken)),
-        ),
-      ),
-    )
+    let e = c .before .before .before .before .before .before .before .before .before .flag-all .ensures in
+    says-short (asked (now (a .text)) (now (a .pattern)) (a .s)) (lend (now (a .links)) (now (a .counts)) (now (a .flags)) (now (a .listing))) _ e _ (t .size-is) (c .if1 .taken)
 
 write-listing-requires : tie.Need-write-listing-requires
 write-listing-requires c κs =
     let o = entry (c .before .before .before .before) in
     let a = o .args in
     let t = totals (c .before .before .before) in (
-      flagged (now (a .text)) (now (a .pattern)) (a .s) _ _ (now (a .flags)) _ (o .pre) (c .before .before .before .before .before .before .before .before .before .before .before .flag-all .ensures .1 .0),
+      flagged (now (a .text)) (now (a .pattern)) (a .s) _ _ (now (a .flags)) _ (o .pre) (marked-flags _ _ _ (c .before .before .before .before .before .before .before .before .before .before .before .flag-all .ensures)),
       t .found-is,
       t .refused-is,
       listing-fits (now (a .text)) (now (a .pattern)) (a .s) _ _ _ _ t (λ k. omega (arith, c .before .before .before .before .before .before .before .before .before .before .before .before .before .before .before .before .before .before .before .before .before .before .before .shared-slice-known2 .given k)) (c .before .before .if1 .left),
@@ -104,16 +98,9 @@ returns-2 c =
     let o = entry (c .before .before .before .before .before .before .before) in
     let a = o .args in
     let t = totals (c .before .before .before .before .before .before) in
-    let e = c .before .before .before .before .before .before .before .before .before .before .before .before .before .before .flag-all .ensures in (
-      says-listed (now (a .text)) (a .s .rows) (a .s .columns) (now (a .pattern)) (a .s .height) (a .s .width) _ _ _ _ (t .found-is) (t .refused-is) (t .size-is) (c .before .before .before .before .before .if1 .left),
-      (
-        e .1 .1,
-        (
-          counts-over (now (a .text)) _ (a .s) _ (now (a .counts)) _ _ (o .pre) (e .0),
-          (e .1 .0, long-written _ _ _ (now (a .listing)) _ (t .size-is) (c .before .before .before .before .before .if1 .left) (c .before .before .write-listing .ensures)),
-        ),
-      ),
-    )
+    let e = c .before .before .before .before .before .before .before .before .before .before .before .before .before .before .flag-all .ensures in
+    says-listed (asked (now (a .text)) (now (a .pattern)) (a .s)) (lend (now (a .links)) (now (a .counts)) (now (a .flags)) (now (a .listing))) _ e _ _ _ _
+    (t .found-is) (t .refused-is) (t .size-is) (c .before .before .before .before .before .if1 .left) (c .before .before .write-listing .ensures)
 
 pub search-windows-spec : {M : Type 1} → statement M
 search-windows-spec =

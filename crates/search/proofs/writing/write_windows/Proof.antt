@@ -6,7 +6,8 @@ use native.Mathlib.Omega.{arith}
 use Prim.Native.Nat.{_+_, _-_, _*_, _≤_}
 use lib.ListN.{length}
 use denote.Ref.{now}
-use Rattle.grid.specs.Counts.{across, down, windows-small}
+use Rattle.shapes.specs.Shapes.{across, down}
+use Rattle.grid.specs.Counts.{windows-small}
 use Rattle.matching.specs.Windows.{windowPlace, window-first, window-next, step-asks}
 use Rattle.theory.specs.Older.{Older}
 use Rattle.search.specs.Listing.Windows.{Reached, reached-none, reached-long, reached-room, reached-more, answered}

@@ -9,44 +9,14 @@ use Rattle.values.proofs.beside.value_beside.Tie as tie
 enum-told : tie.Need-enum-told
 enum-told c = search needs
 
-enum-told-2 : tie.Need-enum-told-2
-enum-told-2 c = search needs
-
-enum-told-3 : tie.Need-enum-told-3
-enum-told-3 c = search needs
-
-enum-told-4 : tie.Need-enum-told-4
-enum-told-4 c = search needs
-
-enum-told-5 : tie.Need-enum-told-5
-enum-told-5 c = search needs
-
 enum-known-why : tie.Need-enum-known-why
 enum-known-why c = search needs
 
 enum-known-why-2 : tie.Need-enum-known-why-2
 enum-known-why-2 c = search needs
 
-enum-told-6 : tie.Need-enum-told-6
-enum-told-6 c = search needs
-
-enum-told-7 : tie.Need-enum-told-7
-enum-told-7 c = search needs
-
-enum-told-8 : tie.Need-enum-told-8
-enum-told-8 c = search needs
-
 enum-known-why-3 : tie.Need-enum-known-why-3
 enum-known-why-3 c = search needs
-
-enum-told-9 : tie.Need-enum-told-9
-enum-told-9 c = search needs
-
-enum-told-10 : tie.Need-enum-told-10
-enum-told-10 c = search needs
-
-enum-told-11 : tie.Need-enum-told-11
-enum-told-11 c = search needs
 
 enum-known-why-4 : tie.Need-enum-known-why-4
 enum-known-why-4 c = search needs
@@ -55,78 +25,18 @@ returns : tie.Need-returns
 returns c = search needs
 
 returns-2 : tie.Need-returns-2
-returns-2 c = search needs
+returns-2 c = sym (ap valuesOf (c .before .why .given .1))
 
 returns-3 : tie.Need-returns-3
-returns-3 c = search needs
+returns-3 c = sym (ap valuesOf (c .before .why2 .given .1))
 
 returns-4 : tie.Need-returns-4
-returns-4 c = search needs
+returns-4 c = sym (ap valuesOf (c .before .why3 .given .1))
 
 returns-5 : tie.Need-returns-5
-returns-5 c = search needs
-
-returns-6 : tie.Need-returns-6
-returns-6 c = sym (ap valuesOf (c .before .why .given .1))
-
-returns-7 : tie.Need-returns-7
-returns-7 c = sym (ap valuesOf (c .before .why2 .given .1))
-
-returns-8 : tie.Need-returns-8
-returns-8 c = search needs
-
-returns-9 : tie.Need-returns-9
-returns-9 c = search needs
-
-returns-10 : tie.Need-returns-10
-returns-10 c = search needs
-
-returns-11 : tie.Need-returns-11
-returns-11 c = sym (ap valuesOf (c .before .why3 .given .1))
-
-returns-12 : tie.Need-returns-12
-returns-12 c = search needs
-
-returns-13 : tie.Need-returns-13
-returns-13 c = search needs
-
-returns-14 : tie.Need-returns-14
-returns-14 c = search needs
-
-returns-15 : tie.Need-returns-15
-returns-15 c = sym (ap valuesOf (c .before .why4 .given .1))
+returns-5 c = sym (ap valuesOf (c .before .why4 .given .1))
 
 pub value-beside-spec : {M : Type 1} → statement M
 value-beside-spec =
     tie.close
-    (tie.spec
-    enum-told
-    enum-told-2
-    enum-told-3
-    enum-told-4
-    enum-told-5
-    enum-known-why
-    enum-known-why-2
-    enum-told-6
-    enum-told-7
-    enum-told-8
-    enum-known-why-3
-    enum-told-9
-    enum-told-10
-    enum-told-11
-    enum-known-why-4
-    returns
-    returns-2
-    returns-3
-    returns-4
-    returns-5
-    returns-6
-    returns-7
-    returns-8
-    returns-9
-    returns-10
-    returns-11
-    returns-12
-    returns-13
-    returns-14
-    returns-15)
+    (tie.spec enum-told enum-known-why enum-known-why-2 enum-known-why-3 enum-known-why-4 returns returns-2 returns-3 returns-4 returns-5)

@@ -2,8 +2,9 @@
 -- Assumes nothing.
 use mathlib.Core.Path.{sym, ap, _∙_}
 use borrow.Author.Needs.{needs}
+use Rattle.verify.specs.Check.{checkedSaid}
 use Rattle.verify.specs.declared.check.Checked.{Checked}
-use Rattle.values.specs.Checking.{checkedTotals}
+use Rattle.values.specs.Checking.{countsBy}
 use Rattle.values.proofs.checking.checked_totals.Statement.{statement}
 use Rattle.values.proofs.checking.checked_totals.Tie as tie
 
@@ -23,10 +24,10 @@ place-beside-requires : tie.Need-place-beside-requires
 place-beside-requires c κs = search needs
 
 returns : tie.Need-returns
-returns c = sym (ap (λ (r : Checked). checkedTotals r (c .before .before .before .args .old)) (c .before .answer .given .1))
+returns c = sym (ap (λ (r : Checked). countsBy (checkedSaid r) (c .before .before .before .args .old)) (c .before .answer .given .1))
 
 returns-2 : tie.Need-returns-2
-returns-2 c = c .place-beside .ensures ∙ sym (ap (λ (r : Checked). checkedTotals r (c .before .before .before .before .args .old)) (c .before .before .answer2 .given .1))
+returns-2 c = c .place-beside .ensures ∙ sym (ap (λ (r : Checked). countsBy (checkedSaid r) (c .before .before .before .before .args .old)) (c .before .before .answer2 .given .1))
 
 pub checked-totals-spec : {M : Type 1} → statement M
 checked-totals-spec =

@@ -3,7 +3,8 @@
 use mathlib.Core.Path.{sym, ap, _∙_}
 use borrow.Author.Needs.{needs}
 use Rattle.search.specs.declared.search.Searched.{Searched}
-use Rattle.values.specs.Searching.{totalsIn}
+use Rattle.search.specs.Search.{searchedSaid}
+use Rattle.values.specs.Searching.{totalsBy}
 use Rattle.values.proofs.searching.totals_in.Statement.{statement}
 use Rattle.values.proofs.searching.totals_in.Tie as tie
 
@@ -23,10 +24,10 @@ totals-beside-requires : tie.Need-totals-beside-requires
 totals-beside-requires c κs = search needs
 
 returns : tie.Need-returns
-returns c = sym (ap (λ (r : Searched). totalsIn r (c .before .before .before .args .old)) (c .before .answer .given .1))
+returns c = sym (ap (λ (r : Searched). totalsBy (searchedSaid r) (c .before .before .before .args .old)) (c .before .answer .given .1))
 
 returns-2 : tie.Need-returns-2
-returns-2 c = c .totals-beside .ensures ∙ sym (ap (λ (r : Searched). totalsIn r (c .before .before .before .before .args .old)) (c .before .before .answer2 .given .1))
+returns-2 c = c .totals-beside .ensures ∙ sym (ap (λ (r : Searched). totalsBy (searchedSaid r) (c .before .before .before .before .args .old)) (c .before .before .answer2 .given .1))
 
 pub totals-in-spec : {M : Type 1} → statement M
 totals-in-spec =

@@ -6,7 +6,9 @@ use native.Mathlib.Omega.{arith}
 use Prim.Native.Nat.{_*_, _≤_}
 use borrow.Author.Needs.{needs}
 use denote.Ref.{now}
-use Rattle.grid.specs.Counts.{across, down, windows-small}
+use Rattle.shapes.specs.Questions.{asked}
+use Rattle.shapes.specs.Shapes.{across, down}
+use Rattle.grid.specs.Counts.{windows-small}
 use Rattle.claims.specs.Claims.{goes}
 use Rattle.verify.specs.Check.{windowsTo, foundTo}
 use Rattle.claims.specs.Passages.{courseOf}
@@ -21,11 +23,11 @@ entry c = c .before .before .before .before
 
 -- all windows are right: where they end, and how many stand as found
 passed : (c : tie.After-walked2) → let a = entry (c .before .before) .args in
-    (windowsTo (now (a .text)) (a .s .columns) (now (a .pattern)) (a .s .height) (a .s .width) (now (a .listing)) (down (a .s) * across (a .s)) ≡ goes (c .walked2 .given .0 .0))
-    × (c .walked2 .given .0 .1 .0 ≡ foundTo (now (a .text)) (a .s .columns) (now (a .pattern)) (a .s .height) (a .s .width) (now (a .listing)) (down (a .s) * across (a .s)))
+    (windowsTo (asked (now (a .text)) (now (a .pattern)) (a .s)) (now (a .listing)) (down (a .s) * across (a .s)) ≡ goes (c .walked2 .given .0 .0))
+    × (c .walked2 .given .0 .1 .0 ≡ foundTo (asked (now (a .text)) (now (a .pattern)) (a .s)) (now (a .listing)) (down (a .s) * across (a .s)))
 passed c =
     let a = entry (c .before .before) .args in
-    subst (WindowsWalked (now (a .text)) (now (a .pattern)) (a .s) (now (a .listing))) (c .walked2 .given .1) (c .before .before .read-windows .ensures)
+    subst (WindowsWalked (asked (now (a .text)) (now (a .pattern)) (a .s)) (now (a .listing))) (c .walked2 .given .1) (c .before .before .read-windows .ensures)
 
 -- those found are windows, and there are few
 few : (c : tie.After-walked2) → let a = entry (c .before .before) .args in
@@ -33,12 +35,12 @@ few : (c : tie.After-walked2) → let a = entry (c .before .before) .args in
 few c =
     let o = entry (c .before .before) in
     let a = o .args in (
-      omega (arith, passed c .1, found-le (now (a .text)) (a .s .columns) (now (a .pattern)) (a .s .height) (a .s .width) (now (a .listing)) (down (a .s) * across (a .s))),
-      omega (arith, windows-small (a .s) _ (o .pre .0)),
+      omega (arith, passed c .1, found-le (asked (now (a .text)) (now (a .pattern)) (a .s)) (now (a .listing)) (down (a .s) * across (a .s))),
+      omega (arith, windows-small (a .s) _ (o .pre .shape)),
     )
 
 read-windows-requires : tie.Need-read-windows-requires
-read-windows-requires c κs = search needs
+read-windows-requires c κs = let p = c .before .before .before .pre in (p .shape, p .size)
 
 enum-known-walked : tie.Need-enum-known-walked
 enum-known-walked c = search needs
@@ -82,15 +84,15 @@ enum-told c = search needs
 returns : tie.Need-returns
 returns c =
     let a = entry (c .before .before .before) .args in
-    stopped-answer (now (a .text)) (a .s .rows) (a .s .columns) (now (a .pattern)) (a .s .height) (a .s .width) (now (a .listing)) (c .before .walked .given .0 .0)
-    (subst (WindowsWalked (now (a .text)) (now (a .pattern)) (a .s) (now (a .listing))) (c .before .walked .given .1) (c .before .before .before .read-windows .ensures))
+    stopped-answer (asked (now (a .text)) (now (a .pattern)) (a .s)) (now (a .listing)) (c .before .walked .given .0 .0)
+    (subst (WindowsWalked (asked (now (a .text)) (now (a .pattern)) (a .s)) (now (a .listing))) (c .before .walked .given .1) (c .before .before .before .read-windows .ensures))
 
 returns-2 : tie.Need-returns-2
 returns-2 c =
     let w = c .before .before .before .before .before .before .before .before .before in
     let a = entry (w .before .before) .args in
     let p = passed w in
-    closing-stopped (now (a .text)) (a .s .rows) (a .s .columns) (now (a .pattern)) (a .s .height) (a .s .width) (now (a .listing)) _ _ (p .0) (p .1) _ refl
+    closing-stopped (asked (now (a .text)) (now (a .pattern)) (a .s)) (now (a .listing)) _ _ (p .0) (p .1) _ refl
     (c .before .last .given .0 .0) (ap courseOf (sym (c .before .last .given .1)) ∙ c .before .before .before .read-closing .ensures)
 
 returns-3 : tie.Need-returns-3
@@ -98,7 +100,7 @@ returns-3 c =
     let w = c .before .before .before .before .before .before .before .before in
     let a = entry (w .before .before) .args in
     let p = passed w in
-    closing-kept (now (a .text)) (a .s .rows) (a .s .columns) (now (a .pattern)) (a .s .height) (a .s .width) (now (a .listing)) _ _ (p .0) (p .1) _ refl
+    closing-kept (asked (now (a .text)) (now (a .pattern)) (a .s)) (now (a .listing)) _ _ (p .0) (p .1) _ refl
     (c .enum-told .given .0 .0) (ap courseOf (sym (c .enum-told .given .1)) ∙ c .before .before .read-closing .ensures)
 
 pub check-listing-spec : {M : Type 1} → statement M

@@ -3,14 +3,16 @@
 -- Assumes nothing.
 use mathlib.Core.Path.{_≡_, refl, sym, _∙_, ap}
 use native.Mathlib.Omega.{arith}
-use Prim.Native.Nat.{_+_, _-_, _*_, _≤_}
+use Prim.Native.Nat.{ℕ, _+_, _-_, _*_, _≤_}
 use lib.ListN.{length}
 use borrow.Author.Needs.{needs}
 use denote.Ref.{now}
 use Rattle.theory.specs.Older.{Older}
-use Rattle.grid.specs.Counts.{across, down, windows-small}
+use Rattle.shapes.specs.Shapes.{across, down}
+use Rattle.grid.specs.Counts.{windows-small}
 use Rattle.matching.specs.Windows.{windowPlace, window-first, window-next, step-asks}
-use Rattle.matching.specs.declared.compare.WindowPlace.{WindowPlace}
+use Rattle.shapes.specs.declared.windows.WindowPlace.{WindowPlace}
+use Rattle.shapes.specs.Questions.{ask, asked}
 use Rattle.claims.specs.Claims.{goes, stops}
 use Rattle.verify.specs.Check.{entryFrom, windowsTo, foundTo}
 use Rattle.claims.specs.Passages.{courseOf}
@@ -19,11 +21,12 @@ use Rattle.verify.specs.Windows.{windows-none, found-none, windows-step,
 use Rattle.verify.proofs.windows.walk_windows.Statement.{statement}
 use Rattle.verify.proofs.windows.walk_windows.Tie as tie
 
+-- the loop doesn't read how many rows the text has: what it keeps holds for every number of them
 abbrev Inv-loop : tie.InvT-loop
 Inv-loop text pattern symbols period images₀ given₀ listing across n v₀ base₀ at₀ found₀ k₀ images given v base at found k =
     (k ≤ n) × (v ≡ windowPlace (v₀ .columns) (v₀ .height) (v₀ .width) k) × (base ≡ 256 + k * 256) × (length images ≡ 256) × Older base given
-    × (windowsTo text (v₀ .columns) pattern (v₀ .height) (v₀ .width) listing k ≡ goes at)
-    × (found ≡ foundTo text (v₀ .columns) pattern (v₀ .height) (v₀ .width) listing k)
+    × ((rows : ℕ) → windowsTo (ask text rows (v₀ .columns) pattern (v₀ .height) (v₀ .width)) listing k ≡ goes at)
+    × ((rows : ℕ) → found ≡ foundTo (ask text rows (v₀ .columns) pattern (v₀ .height) (v₀ .width)) listing k)
 
 abbrev μ-loop : tie.MeasureT-loop
 μ-loop text pattern symbols period images₀ given₀ listing across n v₀ base₀ at₀ found₀ k₀ images given v base at found k = n - k
@@ -53,8 +56,8 @@ loop-holds c =
       refl,
       o .pre .3,
       o .pre .4,
-      windows-none (now (a .text)) (a .s .columns) (now (a .pattern)) (a .s .height) (a .s .width) (now (a .listing)),
-      found-none (now (a .text)) (a .s .columns) (now (a .pattern)) (a .s .height) (a .s .width) (now (a .listing)),
+      (λ rows. windows-none (ask (now (a .text)) rows (a .s .columns) (now (a .pattern)) (a .s .height) (a .s .width)) (now (a .listing))),
+      (λ rows. found-none (ask (now (a .text)) rows (a .s .columns) (now (a .pattern)) (a .s .height) (a .s .width)) (now (a .listing))),
     )
 
 read-entry-requires : tie.Need-read-entry-requires Inv-loop μ-loop
@@ -89,9 +92,9 @@ returns c =
     let l = c .before .before .before .before .before .before .before in
     let a = l .before .before .before .before .before .before .before .before .before .args in
     let i = l .loop in
-    windows-stopped (now (a .text)) (a .s .columns) (now (a .pattern)) (a .s .height) (a .s .width) (now (a .listing)) (c .before .step .given .0 .0) (i .k + 1) _
+    windows-stopped (asked (now (a .text)) (now (a .pattern)) (a .s)) (now (a .listing)) (c .before .step .given .0 .0) (i .k + 1) _
     (omega (arith, c .before .before .before .before .before .before .loop-test .taken))
-    (windows-step (now (a .text)) (a .s .columns) (now (a .pattern)) (a .s .height) (a .s .width) (now (a .listing)) (i .k) (i .at) (i .v) (i .inv .5) (i .inv .1) _ (halted (c .before)))
+    (windows-step (asked (now (a .text)) (now (a .pattern)) (a .s)) (now (a .listing)) (i .k) (i .at) (i .v) (i .inv .5 (a .s .rows)) (i .inv .1) _ (halted (c .before)))
 
 enum-known-step-2 : tie.Need-enum-known-step-2 Inv-loop μ-loop
 enum-known-step-2 c = search needs
@@ -117,8 +120,8 @@ count-found-requires c κs =
     let i = l .loop in
     omega (
       arith,
-      i .inv .6,
-      found-le (now (a .text)) (a .s .columns) (now (a .pattern)) (a .s .height) (a .s .width) (now (a .listing)) (i .k),
+      i .inv .6 (a .s .rows),
+      found-le (asked (now (a .text)) (now (a .pattern)) (a .s)) (now (a .listing)) (i .k),
       c .before .before .before .before .before .before .before .loop-test .taken,
       windows-small (a .s) _ (o .pre .0),
     )
@@ -155,9 +158,9 @@ loop-again c =
       omega (arith, i .inv .2),
       e .1 .1,
       e .1 .0,
-      windows-step (now (a .text)) (a .s .columns) (now (a .pattern)) (a .s .height) (a .s .width) (now (a .listing)) (i .k) (i .at) (i .v) (i .inv .5) (i .inv .1) _ g,
-      found-step (now (a .text)) (a .s .columns) (now (a .pattern)) (a .s .height) (a .s .width) (now (a .listing)) (i .k) (i .at) (i .v) (i .inv .5) (i .inv .1) (i .found) _ _ g
-          (i .inv .6) (c .before .count-found .ensures),
+      (λ rows. windows-step (ask (now (a .text)) rows (a .s .columns) (now (a .pattern)) (a .s .height) (a .s .width)) (now (a .listing)) (i .k) (i .at) (i .v) (i .inv .5 rows) (i .inv .1) _ g),
+      (λ rows. found-step (ask (now (a .text)) rows (a .s .columns) (now (a .pattern)) (a .s .height) (a .s .width)) (now (a .listing)) (i .k) (i .at) (i .v) (i .inv .5 rows) (i .inv .1) (i .found) _ _ g
+          (i .inv .6 rows) (c .before .count-found .ensures)),
     )
 
 returns-2 : tie.Need-returns-2 Inv-loop μ-loop
@@ -165,7 +168,7 @@ returns-2 c =
     let o = c .before .before .before .before .before .before .before .before .before .before in
     let i = c .before .loop in
     let e : i .k ≡ down (o .args .s) * across (o .args .s) = omega (arith, i .inv .0, c .loop-test .left) in
-    (rw e at (i .inv .5), rw e at (i .inv .6))
+    (rw e at (i .inv .5 (o .args .s .rows)), rw e at (i .inv .6 (o .args .s .rows)))
 
 pub walk-windows-spec : {M : Type 1} → statement M
 walk-windows-spec =

@@ -6,8 +6,7 @@ use Prim.Native.Nat.{ℕ, _+_, _≤_}
 use native.Mathlib.Nat.{add-zero}
 use native.Mathlib.Omega.{arith}
 use lib.ListN.{length, take, length-append, take-append-drop}
-use Rattle.listing.specs.Records.{written}
-use Rattle.listing.specs.Writing.{length-written, written-append}
+use Rattle.theory.specs.Written.{written, length-written, written-append}
 
 -- the bytes left go to the place `at`, and then the buffer is whole and the place is `stop`
 pub record Left (whole : List ℕ) (stop : ℕ) (l : List ℕ) (at : ℕ) (bytes : List ℕ) : Type 0 where

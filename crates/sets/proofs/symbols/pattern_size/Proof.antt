@@ -1,15 +1,15 @@
--- `flags::pattern_size` meets its contract: the size of the symbol set is the number of different symbols (`size-distinct`), and there are no more of
+-- `symbols::pattern_size` meets its contract: the size of the symbol set is the number of different symbols (`size-distinct`), and there are no more of
 -- them than cells.
 -- Assumes nothing.
 use mathlib.Core.Path.{_≡_, _∙_, ap}
 use native.Mathlib.Omega.{arith}
 use borrow.Author.Needs.{needs}
 use denote.Ref.{now}
 use Rattle.sets.specs.Symbols.{sizeOf}
 use Rattle.sets.specs.Symbols.Patterns.{size-distinct}
 use Rattle.grid.specs.Distinct.{distinct, distinct-le}
-use Rattle.flags.proofs.flags.pattern_size.Statement.{statement}
-use Rattle.flags.proofs.flags.pattern_size.Tie as tie
+use Rattle.sets.proofs.symbols.pattern_size.Statement.{statement}
+use Rattle.sets.proofs.symbols.pattern_size.Tie as tie
 
 size-is : (c : tie.After-size) → c .size .result ≡ distinct (now (c .before .before .before .args .pattern))
 size-is c =
