@@ -1,6 +1,8 @@
--- Document 01's check of a listing, as far as one record claims something of its window: where the check stands, when a record stands at a place, and what a
--- pair and a mismatch have to say. The walk over all windows is `Check` of the crate verify.
+-- Document 01's check of a listing, as far as one record claims something of its window: where the check stands, when a
+-- record stands at a place, and what a pair and a mismatch have to say. The walk over all windows is `Check` of the
+-- crate verify.
 -- Assumes nothing.
+pub mod Standing
 use mathlib.Core.Bool.{Bool, true, false, not}
 use mathlib.Core.List.{List, [], _∷_}
 use Prim.Native.Nat.{ℕ, _+_, _*_}
@@ -12,20 +14,19 @@ use Rattle.grid.specs.Distinct.{contains}
 use Rattle.shapes.specs.declared.refusals.Refusal.{Refusal}
 use Rattle.shapes.specs.declared.refusals.Refusal.the-variants.{ListingForm, ListingFalse}
 use Rattle.listing.specs.Reader.{wholeAt}
+use Rattle.claims.specs.declared.walks.Walk.{Walk}
+use Rattle.claims.specs.declared.walks.Walk.the-variants.{Goes, Stops}
 
--- where the check stands: every record so far is right, and the next one begins at a place; or at the first bad record
-pub data Course : Type 0 where
-  goes : ℕ → Course
-  stops : Refusal → Course
+-- ---- a walk: `Goes at`, every record so far is right and the next one begins there; or `Stops why`, at the first bad one
 
 -- it stops unless the test passes, and otherwise goes on with what comes after
-abbrev pub orStop : Bool → Refusal → Course → Course
-orStop ok why after = pick ok after (stops why)
+abbrev pub orStop : Bool → Refusal → Walk → Walk
+orStop ok why after = pick ok after (Stops why)
 
 -- what comes after, from the place that was reached
-abbrev pub onward : Course → (ℕ → Course) → Course
-onward (goes at) after = after at
-onward (stops why) after = stops why
+abbrev pub onward : Walk → (ℕ → Walk) → Walk
+onward (Goes at) after = after at
+onward (Stops why) after = Stops why
 
 -- ---- one record
 
@@ -41,10 +42,12 @@ byteAt listing at i = getD listing (at + i) 0
 unfoldable pub hasImage : (ℕ → ℕ) → (ℕ → ℕ) → ℕ → ℕ → ℕ → Bool
 hasImage m w n a b = every (λ p. pick (eqb (m p) a) (eqb (w p) b) true) n
 
--- a pair is right: its pattern symbol is the next one, a, and its text symbol stands in all of a's cells and was not given before for this window
+-- a pair is right: its pattern symbol is the next one, a, and its text symbol stands in all of a's cells and was not
+-- given before for this window
 unfoldable pub rightPair : (ℕ → ℕ) → (ℕ → ℕ) → ℕ → List ℕ → ℕ → List ℕ → ℕ → Bool
 rightPair m w n listing a given at =
-    both (eqb (byteAt listing at 1) a) (both (hasImage m w n a (byteAt listing at 2)) (not (contains given (byteAt listing at 2))))
+    both (eqb (byteAt listing at 1) a) (both (hasImage m w n a (byteAt listing at 2))
+    (not (contains given (byteAt listing at 2))))
 
 -- a cell lies in the pattern
 abbrev pub cellInside : ℕ → ℕ → ℕ → ℕ → Bool
@@ -64,8 +67,9 @@ trueMismatch side m w height width i j k l =
 -- ---- the pairs of a window: 6 where another kind or no whole record stands, 7 where a pair is not right
 
 -- the pairs of a found window, one for each of these symbols; the window's symbols of the pairs before them are given
-unfoldable pub pairsFrom : (ℕ → ℕ) → (ℕ → ℕ) → ℕ → List ℕ → List ℕ → List ℕ → ℕ → Course
-pairsFrom m w n listing [] given at = goes at
+unfoldable pub pairsFrom : (ℕ → ℕ) → (ℕ → ℕ) → ℕ → List ℕ → List ℕ → List ℕ → ℕ → Walk
+pairsFrom m w n listing [] given at = Goes at
 pairsFrom m w n listing (a ∷ symbols) given at =
     orStop (stands listing 2 at) (ListingForm at)
-    (orStop (rightPair m w n listing a given at) (ListingFalse at) (pairsFrom m w n listing symbols (byteAt listing at 2 ∷ given) (at + 3)))
+    (orStop (rightPair m w n listing a given at) (ListingFalse at)
+    (pairsFrom m w n listing symbols (byteAt listing at 2 ∷ given) (at + 3)))

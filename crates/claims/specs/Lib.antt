@@ -1,6 +1,6 @@
 pub mod Claims
-pub mod Passages
-pub mod Standing
+pub mod Walks
 pub mod Carries
 pub mod Pairs
+pub mod Inheritance
 pub mod Mismatches

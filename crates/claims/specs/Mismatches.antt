@@ -1,4 +1,5 @@
--- A mismatch's two cells: where they lie in the pattern and in the text, and the code's tests as the definition has them.
+-- A mismatch's two cells: where they lie in the pattern and in the text, and the code's tests as the definition has
+-- them.
 -- Assumes nothing.
 use mathlib.Core.Path.{_≡_, sym, ap}
 use mathlib.Core.Bool.{Bool, true, false, not}
@@ -9,15 +10,16 @@ use native.Mathlib.Omega.{arith}
 use lib.Dec.{eqb}
 use lib.ListN.{length}
 use borrow.Author.Tests.{lt-ltb, le-ltb}
-use Rattle.theory.specs.Test.{both, lt-tested, both-tested, says-true}
-use Rattle.matching.specs.Compare.{cellsOf, Placed}
+use Rattle.theory.specs.Test.{both}
+use Rattle.theory.specs.Test.Laws.{lt-tested, both-tested, says-true}
+use Rattle.matching.specs.Compare.{cellCount, Placed}
 use Rattle.shapes.specs.declared.windows.WindowPlace.{WindowPlace}
 use Rattle.claims.specs.Claims.{cellInside, alikeOnly, trueMismatch}
 
 -- ---- the places of a cell
 
 -- a cell of the pattern is one of its positions
-pub cell-position : (v : WindowPlace) (i j : ℕ) → i < v .height → j < v .width → i * v .width + j < cellsOf v
+pub cell-position : (v : WindowPlace) (i j : ℕ) → i < v .height → j < v .width → i * v .width + j < cellCount v
 cell-position v i j h k = omega (arith, suc-mul i (v .width), mul-le-mul-right (v .width) h)
 
 -- and the window's symbol in it stands in the text

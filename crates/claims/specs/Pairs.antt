@@ -1,4 +1,5 @@
--- What the reading of pairs needs and keeps: the window that stands as found, and the marks of the symbols given so far.
+-- What the reading of pairs needs and keeps: the window that stands as found, and the marks of the symbols given so
+-- far.
 -- Assumes nothing.
 pub mod Reading
 pub mod Rising
@@ -13,22 +14,24 @@ use Rattle.theory.specs.Older.{Older}
 use Rattle.grid.specs.Distinct.{contains}
 use Rattle.grid.specs.Distinct.Sets.{contains-tested}
 use Rattle.shapes.specs.declared.refusals.Refusal.the-variants.{ListingForm, ListingFalse}
-use Rattle.matching.specs.Compare.{patternAt, windowOf, cellsOf, Placed}
+use Rattle.matching.specs.Compare.{patternAt, windowOf, cellCount, Placed}
 use Rattle.shapes.specs.declared.windows.WindowPlace.{WindowPlace}
-use Rattle.theory.specs.Test.{pick, both, Tested, holds, fails, eq-tested, lt-tested, tested-iff, tested-same, is-true, is-false, says-true}
-use Rattle.theory.specs.First.{every-tested}
+use Rattle.theory.specs.Test.{pick, both, Tested, holds, fails}
+use Rattle.theory.specs.Test.Laws.{eq-tested, lt-tested, tested-iff, tested-same, is-true, is-false, says-true}
+use Rattle.theory.specs.First.Laws.{every-tested}
 use Rattle.claims.specs.Carries.{Carried}
-use Rattle.claims.specs.Claims.{goes, orStop, byteAt, stands, hasImage, rightPair}
-use Rattle.claims.specs.Passages.{courseOf}
-use Rattle.claims.specs.declared.passages.Passage.{Passage}
+use Rattle.claims.specs.Claims.{orStop, byteAt, stands, hasImage, rightPair}
+use Rattle.claims.specs.declared.walks.Walk.the-variants.{Goes}
+use Rattle.claims.specs.declared.walks.Walk.{Walk}
 
 -- a window that stands as found, and the images that its cells give, where they carry the pattern
-pub record FoundWindow (text : List ℕ) (v : WindowPlace) (pattern : List ℕ) (carried : Bool) (base : ℕ) (images : List ℕ) : Type 0 where
+pub record FoundWindow (text : List ℕ) (v : WindowPlace) (pattern : List ℕ) (carried : Bool) (base : ℕ)
+    (images : List ℕ) : Type 0 where
   pub placed : Placed text v
-  pub size : length pattern ≡ cellsOf v
+  pub size : length pattern ≡ cellCount v
   pub long : length images ≡ 256
   pub small : base ≤ 16777216
-  pub carries : carried ≡ true → Carried base (patternAt pattern) (windowOf text v) (cellsOf v) images
+  pub carries : carried ≡ true → Carried base (patternAt pattern) (windowOf text v) (cellCount v) images
 
 -- just the symbols given are marked with base
 pub record Marked (base : ℕ) (given marks : List ℕ) : Type 0 where
@@ -36,9 +39,12 @@ pub record Marked (base : ℕ) (given marks : List ℕ) : Type 0 where
   pub says : (b : ℕ) → b < 256 → eqb (getD marks b 0) base ≡ contains given b
 
 -- one pair, after those that gave these symbols
-pub record PairRead (m w : ℕ → ℕ) (n : ℕ) (listing : List ℕ) (a base at : ℕ) (given : List ℕ) (r : Passage) (marks : List ℕ) : Type 0 where
-  pub course-is : courseOf r ≡ orStop (stands listing 2 at) (ListingForm at) (orStop (rightPair m w n listing a given at) (ListingFalse at) (goes (at + 3)))
-  pub marked : both (stands listing 2 at) (rightPair m w n listing a given at) ≡ true → Marked base (byteAt listing at 2 ∷ given) marks
+pub record PairRead (m w : ℕ → ℕ) (n : ℕ) (listing : List ℕ) (a base at : ℕ) (given : List ℕ) (r : Walk)
+    (marks : List ℕ) : Type 0 where
+  pub walk-is : r ≡ orStop (stands listing 2 at) (ListingForm at)
+      (orStop (rightPair m w n listing a given at) (ListingFalse at) (Goes (at + 3)))
+  pub marked : both (stands listing 2 at) (rightPair m w n listing a given at) ≡ true
+      → Marked base (byteAt listing at 2 ∷ given) marks
   pub older : Older (base + 1) marks
 
 -- ---- whether the window has b in every cell where the pattern has a
@@ -51,7 +57,9 @@ imply-tested (fails n) t = holds (λ p. absurd (n p))
 
 pub has-image-tested : (m w : ℕ → ℕ) (n a b : ℕ) → Tested ((p : ℕ) → p < n → m p ≡ a → w p ≡ b) (hasImage m w n a b)
 unfolding hasImage
-has-image-tested m w n a b = every-tested (λ p. pick (eqb (m p) a) (eqb (w p) b) true) n (λ p. imply-tested (eq-tested (m p) a) (eq-tested (w p) b))
+has-image-tested m w n a b =
+    every-tested (λ p. pick (eqb (m p) a) (eqb (w p) b) true) n
+    (λ p. imply-tested (eq-tested (m p) a) (eq-tested (w p) b))
 
 -- cell by cell: among the first p cells, those where the pattern has a have b in the window
 pub record ImageTo (m w : ℕ → ℕ) (a b p : ℕ) : Type 0 where
@@ -77,11 +85,15 @@ module _ (m w : ℕ → ℕ) (a b : ℕ) where
   pub image-other : (p n : ℕ) → p < n → m p ≡ a → (w p ≡ b → ⊥) → hasImage m w n a b ≡ false
   image-other p n h e d = is-false (has-image-tested m w n a b) (λ all. d (all p h e))
 
--- where the images carry, the image of a symbol that the pattern has says it: one cell has the symbol, so the image is that cell's, and every other one's
-pub image-carried : (base : ℕ) (pattern : List ℕ) (w : ℕ → ℕ) (n : ℕ) (images : List ℕ) (a b : ℕ) → length pattern ≡ n → contains pattern a ≡ true
-    → Carried base (patternAt pattern) w n images → eqb (getD images a 0) (base + b) ≡ hasImage (patternAt pattern) w n a b
+-- where the images carry, the image of a symbol that the pattern has says it: one cell has the symbol, so the image is
+-- that cell's, and every other one's
+pub image-carried : (base : ℕ) (pattern : List ℕ) (w : ℕ → ℕ) (n : ℕ) (images : List ℕ) (a b : ℕ) → length pattern ≡ n
+    → contains pattern a ≡ true
+    → Carried base (patternAt pattern) w n images
+    → eqb (getD images a 0) (base + b) ≡ hasImage (patternAt pattern) w n a b
 image-carried base pattern w n images a b size has c =
-    tested-same (tested-iff there back (eq-tested (getD images a 0) (base + b))) (has-image-tested (patternAt pattern) w n a b)
+    tested-same (tested-iff there back (eq-tested (getD images a 0) (base + b)))
+    (has-image-tested (patternAt pattern) w n a b)
   where
     image : (p : ℕ) → p < n → getD pattern p 0 ≡ a → getD images a 0 ≡ base + w p
     image p h e = ap (λ (x : ℕ). getD images x 0) (sym e) ∙ c .carries p h

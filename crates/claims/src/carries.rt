@@ -1,12 +1,14 @@
-// Whether a window has one symbol for each of the pattern's. The images are lent from window to window and never cleared: base rises with each window, and
-// an entry below it counts for nothing.
+// Whether a window has one symbol for each of the pattern's. The images are lent from window to window and never
+// cleared: base rises with each window, and an entry below it counts for nothing.
 ghost use mathlib.Core.Path.{_≡_};
 ghost use mathlib.Core.Bool.{true};
-ghost use Prim.Native.Nat.{_+_, _≤_, _<_};
+ghost use Prim.Native.Nat.{_+_, _*_, _≤_, _<_};
 ghost use lib.ListN.{length};
-ghost use Rattle.matching.specs.Compare.{patternAt, windowOf, cellsOf, Placed};
-ghost use Rattle.sets.specs.Repeats.{RowsRepeat};
+ghost use Rattle.matching.specs.Compare.{patternAt, windowOf, cellCount, Placed};
+ghost use Rattle.sets.specs.Symbols.{symbolsOf};
+ghost use Rattle.claims.specs.Inheritance.{Above};
 ghost use Rattle.claims.specs.Carries.{CellCarried, TwoCarried, RowCarried, RowsCarried, Carried};
+use crate::inherit::inherited_rows;
 use shapes::windows::WindowPlace;
 
 // One cell: whether symbol a of the pattern may have c as its image in this window. If it has none yet, it gets it.
@@ -27,7 +29,8 @@ fn carry_cell(a: u8, c: u8, base: u32, images: &mut [u32; 256]) -> bool
     true
 }
 
-// Two cells. Where both have their images already, as most cells of a window that the pattern matches do, nothing else is asked.
+// Two cells. Where both have their images already, as most cells of a window that the pattern matches do, nothing else
+// is asked.
 fn carry_two(a: u8, c: u8, b: u8, d: u8, base: u32, images: &mut [u32; 256]) -> bool
     requires { ⌜ (length (now images) ≡ 256) × (base ≤ 16777216) ⌝ }
     ensures { λ r. ⌜ (r ≡ true → TwoCarried base a c b d (now (images .entry)) (now (images .exit))) ⌝ }
@@ -44,8 +47,8 @@ fn carry_two(a: u8, c: u8, b: u8, d: u8, base: u32, images: &mut [u32; 256]) -> 
     carry_cell(b, d, base, images)
 }
 
-// One row: cells is the pattern's row, row the window's. The image of a symbol is the window's symbol where it is met first. Two cells a round, so that
-// they share what the loop itself costs; a row of odd length has one left over.
+// One row: cells is the pattern's row, row the window's. The image of a symbol is the window's symbol where it is met
+// first. Two cells a round, so that they share what the loop itself costs; a row of odd length has one left over.
 fn row_carries(row: &[u8], cells: &[u8], base: u32, images: &mut [u32; 256]) -> bool
     requires { ⌜ (length (now cells) ≡ length (now row)) × (length (now images) ≡ 256) × (base ≤ 16777216) ⌝ }
     ensures { λ r. ⌜
@@ -67,29 +70,11 @@ fn row_carries(row: &[u8], cells: &[u8], base: u32, images: &mut [u32; 256]) -> 
     true
 }
 
-// Whether two rows are the same. It goes on behind a difference: so the compiler takes many cells at a time.
-fn same_cells(a: &[u8], b: &[u8]) -> bool
-    requires { ⌜ length (now a) ≡ length (now b) ⌝ }
-    ensures { λ r. ⌜ (r ≡ true → now (a .entry) ≡ now (b .entry)) ⌝ }
-{
-    let mut same = true;
-    let mut j = 0;
-    while j < a.len() {
-        if a[j] != b[j] {
-            same = false;
-        }
-        j += 1;
-    }
-    same
-}
-
-// The next row, after i rows that are carried: it begins at start in the text and at from in the pattern. Where the pattern repeats a row, period rows
-// further down, the window has to repeat it too, and no image is asked for.
+// The next row, after i rows that are carried: it begins at start in the text and at from in the pattern.
 fn carry_row(
     text: &[u8],
     v: WindowPlace,
     pattern: &[u8],
-    period: usize,
     base: u32,
     images: &mut [u32; 256],
     i: usize,
@@ -97,7 +82,7 @@ fn carry_row(
     from: usize,
 ) -> bool
     requires { ⌜
-        Placed (now text) v × (length (now pattern) ≡ cellsOf v) × RowsRepeat (now pattern) (v .width) period
+        Placed (now text) v × (length (now pattern) ≡ cellCount v)
         × (base ≤ 16777216) × (i < v .height)
         × RowsCarried (now text) v (now pattern) base i start from (now images) ⌝ }
     ensures { λ r. ⌜
@@ -106,46 +91,76 @@ fn carry_row(
     ensures { λ r. ⌜ length (now (images .exit)) ≡ 256 ⌝ }
 {
     let width = v.width;
-    let columns = v.columns;
     let row = &text[start..start + width];
-    if period <= i {
-        let up = start - period * columns;
-        return same_cells(row, &text[up..up + width]);
-    }
     let cells = &pattern[from..from + width];
     row_carries(row, cells, base, images)
 }
 
-// All rows. Where the answer is true, the images carry the pattern onto the window.
-pub fn carries(
+// The rows from row known on, where those before it are carried. Where the answer is true, the images carry the pattern
+// onto the window.
+fn rows_carry(
     text: &[u8],
     v: WindowPlace,
     pattern: &[u8],
-    period: usize,
     base: u32,
     images: &mut [u32; 256],
+    known: usize,
 ) -> bool
     requires { ⌜
-        Placed (now text) v × (length (now pattern) ≡ cellsOf v) × RowsRepeat (now pattern) (v .width) period
-        × (length (now images) ≡ 256) × (base ≤ 16777216) ⌝ }
+        Placed (now text) v × (length (now pattern) ≡ cellCount v) × (length (now images) ≡ 256) × (base ≤ 16777216)
+        × (known ≤ v .height)
+        × Carried base (patternAt (now pattern)) (windowOf (now text) v) (known * v .width) (now images) ⌝ }
     ensures { λ r. ⌜
-        (r ≡ true → Carried base (patternAt (now (pattern .entry))) (windowOf (now (text .entry)) v) (cellsOf v)
+        (r ≡ true → Carried base (patternAt (now (pattern .entry))) (windowOf (now (text .entry)) v) (cellCount v)
         (now (images .exit))) ⌝ }
     ensures { λ r. ⌜ length (now (images .exit)) ≡ 256 ⌝ }
 {
     let height = v.height;
     let width = v.width;
     let columns = v.columns;
-    let mut start = v.row * columns + v.column;
-    let mut from = 0;
-    let mut i = 0;
+    let mut start = (v.row + known) * columns + v.column;
+    let mut from = known * width;
+    let mut i = known;
     while i < height {
-        if !carry_row(text, v, pattern, period, base, images, i, start, from) {
+        if !carry_row(text, v, pattern, base, images, i, start, from) {
             return false;
         }
         start += columns;
         from += width;
         i += 1;
     }
+    true
+}
+
+// All rows: those that the window inherits are not looked at. A window that is carried is kept for those below it.
+pub fn carries(
+    text: &[u8],
+    v: WindowPlace,
+    pattern: &[u8],
+    symbols: &[u8],
+    base: u32,
+    images: &mut [u32; 256],
+    first: &mut [usize; 256],
+    selves: &mut [usize; 256],
+    tops: &mut [usize; 256],
+) -> bool
+    requires { ⌜
+        Placed (now text) v × (length (now pattern) ≡ cellCount v) × (now symbols ≡ symbolsOf (now pattern))
+        × (length (now images) ≡ 256) × (base ≤ 16777216)
+        × Above (now text) (now pattern) (v .columns) (v .height) (v .width) (now first) (now selves) (now tops) ⌝ }
+    ensures { λ r. ⌜
+        (r ≡ true → Carried base (patternAt (now (pattern .entry))) (windowOf (now (text .entry)) v) (cellCount v)
+        (now (images .exit))) ⌝ }
+    ensures { λ r. ⌜ length (now (images .exit)) ≡ 256 ⌝ }
+    ensures { λ r. ⌜
+        Above (now (text .entry)) (now (pattern .entry)) (v .columns) (v .height) (v .width) (now (first .exit))
+        (now (selves .exit)) (now (tops .exit)) ⌝ }
+{
+    let known = inherited_rows(text, v, pattern, symbols, base, images, first, selves, tops);
+    if !rows_carry(text, v, pattern, base, images, known) {
+        return false;
+    }
+    let column = v.column;
+    tops[column] = v.row + 1;
     true
 }

@@ -2,7 +2,7 @@
 ghost use mathlib.Core.Path.{_≡_};
 ghost use Prim.Native.Nat.{_*_, _+_, _<_};
 ghost use lib.ListN.{length};
-ghost use Rattle.matching.specs.Compare.{patternAt, windowOf, cellsOf, Placed};
+ghost use Rattle.matching.specs.Compare.{patternAt, windowOf, cellCount, Placed};
 ghost use Rattle.claims.specs.Claims.{alikeOnly, cellInside, trueMismatch};
 use listing::records::Place;
 use shapes::windows::WindowPlace;
@@ -18,7 +18,7 @@ fn cell_inside(v: WindowPlace, cell: Place) -> bool
 
 // The pattern's symbol in a cell.
 fn pattern_symbol(pattern: &[u8], v: WindowPlace, cell: Place) -> u8
-    requires { ⌜ (length (now pattern) ≡ cellsOf v) × (cell .row < v .height) × (cell .column < v .width) ⌝ }
+    requires { ⌜ (length (now pattern) ≡ cellCount v) × (cell .row < v .height) × (cell .column < v .width) ⌝ }
     ensures { λ r. ⌜ r ≡ patternAt (now (pattern .entry)) (cell .row * v .width + cell .column) ⌝ }
 {
     let row = cell.row as usize;
@@ -46,7 +46,7 @@ fn alike_only(
     p: Place,
 ) -> bool
     requires { ⌜
-        Placed (now text) v × (length (now pattern) ≡ cellsOf v) × (q .row < v .height) × (q .column < v .width)
+        Placed (now text) v × (length (now pattern) ≡ cellCount v) × (q .row < v .height) × (q .column < v .width)
         × (p .row < v .height) × (p .column < v .width) ⌝ }
     ensures { λ r. ⌜
         r ≡ alikeOnly «alike_in_pattern» (patternAt (now (pattern .entry))) (windowOf (now (text .entry)) v)
@@ -72,7 +72,7 @@ pub fn true_mismatch(
     earlier: Place,
     later: Place,
 ) -> bool
-    requires { ⌜ Placed (now text) v × (length (now pattern) ≡ cellsOf v) ⌝ }
+    requires { ⌜ Placed (now text) v × (length (now pattern) ≡ cellCount v) ⌝ }
     ensures { λ r. ⌜
         r ≡ trueMismatch «alike_in_pattern» (patternAt (now (pattern .entry))) (windowOf (now (text .entry)) v)
         (v .height) (v .width) (earlier .row) (earlier .column) (later .row) (later .column) ⌝ }

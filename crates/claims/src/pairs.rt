@@ -7,13 +7,12 @@ ghost use lib.ListN.{length};
 ghost use Rattle.theory.specs.Older.{Older};
 ghost use Rattle.grid.specs.Distinct.{contains};
 ghost use Rattle.sets.specs.Symbols.{symbolsOf};
-ghost use Rattle.sets.specs.Repeats.{RowsRepeat};
-ghost use Rattle.matching.specs.Compare.{patternAt, windowOf, cellsOf, Placed};
+ghost use Rattle.matching.specs.Compare.{patternAt, windowOf, cellCount, Placed};
 ghost use Rattle.claims.specs.Claims.{hasImage, pairsFrom};
+ghost use Rattle.claims.specs.Inheritance.{Above};
 ghost use Rattle.claims.specs.Pairs.{FoundWindow, Marked, PairRead};
-ghost use Rattle.claims.specs.Passages.{courseOf};
 use crate::carries::carries;
-use crate::passages::Passage;
+use crate::walks::Walk;
 use listing::reader::Cursor;
 use listing::reader::Read;
 use listing::records::Record;
@@ -23,9 +22,9 @@ use shapes::windows::WindowPlace;
 
 // Whether the window has b in every cell where the pattern has a: the long way, cell by cell.
 fn all_cells_have(text: &[u8], v: WindowPlace, pattern: &[u8], a: u8, b: u8) -> bool
-    requires { ⌜ Placed (now text) v × (length (now pattern) ≡ cellsOf v) ⌝ }
+    requires { ⌜ Placed (now text) v × (length (now pattern) ≡ cellCount v) ⌝ }
     ensures { λ r. ⌜
-        r ≡ hasImage (patternAt (now (pattern .entry))) (windowOf (now (text .entry)) v) (cellsOf v) a b ⌝ }
+        r ≡ hasImage (patternAt (now (pattern .entry))) (windowOf (now (text .entry)) v) (cellCount v) a b ⌝ }
 {
     let mut p = 0;
     while p < pattern.len() {
@@ -39,8 +38,8 @@ fn all_cells_have(text: &[u8], v: WindowPlace, pattern: &[u8], a: u8, b: u8) -> 
     true
 }
 
-// The same for a symbol of the pattern. Where the images carry the pattern onto the window, the symbol's image says it; the long way is walked only in a
-// window that stands as found and is not, and there some pair is false.
+// The same for a symbol of the pattern. Where the images carry the pattern onto the window, the symbol's image says it;
+// the long way is walked only in a window that stands as found and is not, and there some pair is false.
 fn has_image(
     text: &[u8],
     v: WindowPlace,
@@ -54,7 +53,7 @@ fn has_image(
     requires { ⌜
         FoundWindow (now text) v (now pattern) carried base (now images) × (contains (now pattern) a ≡ true) ⌝ }
     ensures { λ r. ⌜
-        r ≡ hasImage (patternAt (now (pattern .entry))) (windowOf (now (text .entry)) v) (cellsOf v) a b ⌝ }
+        r ≡ hasImage (patternAt (now (pattern .entry))) (windowOf (now (text .entry)) v) (cellCount v) a b ⌝ }
 {
     if carried {
         return images[a as usize] == base + b as u32;
@@ -62,7 +61,8 @@ fn has_image(
     all_cells_have(text, v, pattern, a, b)
 }
 
-// The pair at a place, where a is the pattern's next symbol. The window's symbols that were given before are marked with base.
+// The pair at a place, where a is the pattern's next symbol. The window's symbols that were given before are marked
+// with base.
 fn read_pair(
     text: &[u8],
     v: WindowPlace,
@@ -74,37 +74,37 @@ fn read_pair(
     a: u8,
     listing: &[u8],
     at: usize,
-) -> Passage
+) -> Walk
     requires { ⌜
         FoundWindow (now text) v (now pattern) carried base (now images) × (contains (now pattern) a ≡ true)
         × (length (now given) ≡ 256) ⌝ }
     ensures { λ r. ⌜
         ((before : List ℕ) → Marked base before (now (given .entry))
-        → PairRead (patternAt (now (pattern .entry))) (windowOf (now (text .entry)) v) (cellsOf v)
+        → PairRead (patternAt (now (pattern .entry))) (windowOf (now (text .entry)) v) (cellCount v)
         (now (listing .entry)) a base at before r (now (given .exit))) ⌝ }
 {
     let cursor = Cursor { at };
     let Read::Whole(item, next) = cursor.read_pair_first(listing) else {
-        return Passage::Stopped(Refusal::ListingForm(at));
+        return Walk::Stops(Refusal::ListingForm(at));
     };
     let Record::Pair {
         pattern: x,
         text: y,
     } = item
     else {
-        return Passage::Stopped(Refusal::ListingForm(at));
+        return Walk::Stops(Refusal::ListingForm(at));
     };
     if x != a {
-        return Passage::Stopped(Refusal::ListingFalse(at));
+        return Walk::Stops(Refusal::ListingFalse(at));
     }
     if given[y as usize] == base {
-        return Passage::Stopped(Refusal::ListingFalse(at));
+        return Walk::Stops(Refusal::ListingFalse(at));
     }
     if !has_image(text, v, pattern, carried, base, images, a, y) {
-        return Passage::Stopped(Refusal::ListingFalse(at));
+        return Walk::Stops(Refusal::ListingFalse(at));
     }
     given[y as usize] = base;
-    Passage::Passed(next.at)
+    Walk::Goes(next.at)
 }
 
 // A pair for each symbol of the pattern, rising. The symbols are listed once for all windows.
@@ -119,12 +119,12 @@ fn read_pairs(
     symbols: &[u8],
     listing: &[u8],
     at: usize,
-) -> Passage
+) -> Walk
     requires { ⌜
         FoundWindow (now text) v (now pattern) carried base (now images) × (now symbols ≡ symbolsOf (now pattern))
         × Older base (now given) ⌝ }
     ensures { λ r. ⌜
-        courseOf r ≡ pairsFrom (patternAt (now (pattern .entry))) (windowOf (now (text .entry)) v) (cellsOf v)
+        r ≡ pairsFrom (patternAt (now (pattern .entry))) (windowOf (now (text .entry)) v) (cellCount v)
         (now (listing .entry)) (symbolsOf (now (pattern .entry))) [] at ⌝ }
     ensures { λ r. ⌜ Older (base + 256) (now (given .exit)) ⌝ }
 {
@@ -144,39 +144,44 @@ fn read_pairs(
             listing,
             end,
         );
-        let Passage::Passed(next) = step else {
+        let Walk::Goes(next) = step else {
             return step;
         };
         end = next;
         i += 1;
     }
-    Passage::Passed(end)
+    Walk::Goes(end)
 }
 
-// The pairs of a window that stands as found: its cells are gone through once, before the pairs.
+// The pairs of a window that stands as found: its new rows are gone through once, before the pairs.
 pub fn found_pairs(
     text: &[u8],
     v: WindowPlace,
     pattern: &[u8],
     symbols: &[u8],
-    period: usize,
     base: u32,
     images: &mut [u32; 256],
     given: &mut [u32; 256],
+    first: &mut [usize; 256],
+    selves: &mut [usize; 256],
+    tops: &mut [usize; 256],
     listing: &[u8],
     at: usize,
-) -> Passage
+) -> Walk
     requires { ⌜
-        Placed (now text) v × (length (now pattern) ≡ cellsOf v) × (now symbols ≡ symbolsOf (now pattern))
+        Placed (now text) v × (length (now pattern) ≡ cellCount v) × (now symbols ≡ symbolsOf (now pattern))
         × (length (now images) ≡ 256) × Older base (now given) × (base ≤ 16777216)
-        × RowsRepeat (now pattern) (v .width) period ⌝ }
+        × Above (now text) (now pattern) (v .columns) (v .height) (v .width) (now first) (now selves) (now tops) ⌝ }
     ensures { λ r. ⌜
-        courseOf r ≡ pairsFrom (patternAt (now (pattern .entry))) (windowOf (now (text .entry)) v) (cellsOf v)
+        r ≡ pairsFrom (patternAt (now (pattern .entry))) (windowOf (now (text .entry)) v) (cellCount v)
         (now (listing .entry)) (symbolsOf (now (pattern .entry))) [] at ⌝ }
     ensures { λ r. ⌜ Older (base + 256) (now (given .exit)) ⌝ }
     ensures { λ r. ⌜ length (now (images .exit)) ≡ 256 ⌝ }
+    ensures { λ r. ⌜
+        Above (now (text .entry)) (now (pattern .entry)) (v .columns) (v .height) (v .width) (now (first .exit))
+        (now (selves .exit)) (now (tops .exit)) ⌝ }
 {
-    let carried = carries(text, v, pattern, period, base, images);
+    let carried = carries(text, v, pattern, symbols, base, images, first, selves, tops);
     read_pairs(
         text,
         v,

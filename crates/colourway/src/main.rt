@@ -1,5 +1,4 @@
 // Document 01's program. Its work is `answer`, from the input's bytes to the output's; here they are read and written.
-mod input;
 mod program;
 
 ghost use mathlib.Core.Path.{_≡_};
@@ -11,8 +10,8 @@ use libc::STDIN_FILENO;
 use libc::STDOUT_FILENO;
 use program::answer;
 
-// A byte more than the longest input that can be right, which has 4 sizes and twice 16,384 cells. Of a longer input no more need be read: what stands behind
-// does not change what is printed.
+// A byte more than the longest input that can be right, which has 4 sizes and twice 16,384 cells. Of a longer input no
+// more need be read: what stands behind does not change what is printed.
 fn input_buffer() -> [u8; 32773]
     ensures { λ r. ⌜ 32773 ≡ length r ⌝ }
     ensures { λ r. ⌜ ((input : List ℕ) → outputOf (take (length r) input) ≡ outputOf input) ⌝ }

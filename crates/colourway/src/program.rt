@@ -6,8 +6,9 @@ ghost use Rattle.io.specs.Counts.{Counts};
 ghost use Rattle.shapes.specs.Refusals.{numberOf};
 ghost use Rattle.printing.specs.Lines.{refusalLine, Recorded};
 ghost use Rattle.printing.specs.Lines.Front.{Begins, BeginsWithLines};
-ghost use Rattle.colourway.specs.Program.{outputOf, Right};
-use crate::input::input_outcome;
+ghost use Rattle.colourway.specs.Program.{outputOf};
+ghost use Rattle.input.specs.Input.{RightInput};
+use input::input::input_outcome;
 use printing::lines::write_lines;
 use printing::lines::write_refusal;
 use search::search::Searched;
@@ -70,7 +71,7 @@ fn listed_output(listing: &[u8]) -> Output
 
 // The output of an input that is not refused before it is searched.
 fn searched_output(input: &[u8]) -> Output
-    requires { ⌜ Right (now input) ⌝ }
+    requires { ⌜ RightInput (now input) ⌝ }
     ensures { λ r. ⌜ Begins (r .length) (r .bytes) (outputOf (now (input .entry))) ⌝ }
 {
     let rows = input[0] as usize;

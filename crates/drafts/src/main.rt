@@ -1,5 +1,5 @@
-// Document 01's drafts, each under a heading: the records of its listing a line each, then the totals of the search; what the check counts; or the
-// refusal.
+// Document 01's drafts, and one of ours, each under a heading: the records of its listing a line each, then the totals
+// of the search; what the check counts; or the refusal.
 mod output;
 mod running;
 
@@ -22,7 +22,7 @@ fn first_pattern() -> [u8; 4] {
 }
 
 // The first draft, with its links and distinct counts.
-fn first_draft() {
+fn first_example() {
     print(b"first draft\n");
     run(&first_text(), 2, 3, &first_pattern(), 2, 2);
     print(b"first draft, links of strip 0\n");
@@ -172,8 +172,59 @@ fn refused_listings() {
     check_first(&first_listing());
 }
 
+// A listing for text 4 5 4 4 and pattern 1 2, with a closing of these counts.
+fn counted_listing(found: u8, refused: u8) -> [u8; 30] {
+    [
+        1,
+        0,
+        0,
+        2,
+        1,
+        4,
+        2,
+        2,
+        5,
+        1,
+        0,
+        1,
+        2,
+        1,
+        5,
+        2,
+        2,
+        4,
+        4,
+        0,
+        2,
+        0,
+        0,
+        0,
+        1,
+        5,
+        0,
+        found,
+        0,
+        refused,
+    ]
+}
+
+// The check of such a listing.
+fn check_counted(listing: &[u8]) {
+    run_check(&[4, 5, 4, 4], 1, 4, &[1, 2], 1, 2, listing);
+}
+
+// Two windows found and one refused: with counts that differ, an exchange of the two shows.
+fn unequal_counts() {
+    print(b"sheet 4 5 4 4, motif 1 2\n");
+    run(&[4, 5, 4, 4], 1, 4, &[1, 2], 1, 2);
+    print(b"check of sheet 4 5 4 4, motif 1 2\n");
+    check_counted(&counted_listing(2, 1));
+    print(b"check of sheet 4 5 4 4, motif 1 2, closing 5 0 1 0 2 for 5 0 2 0 1\n");
+    check_counted(&counted_listing(1, 2));
+}
+
 fn main() {
-    first_draft();
+    first_example();
     small_drafts();
     short_buffer();
     longest_sides();
@@ -182,4 +233,5 @@ fn main() {
     one_window();
     kept_listings();
     refused_listings();
+    unequal_counts();
 }

@@ -56,7 +56,8 @@ pub fn run(text: &[u8], rows: usize, columns: usize, pattern: &[u8], height: usi
     run_in(text, rows, columns, pattern, height, width, &mut listing);
 }
 
-// Checks a listing, and prints what stands in it as found and as refused, or the refusal with the place of the first bad record.
+// Checks a listing, and prints what stands in it as found and as refused, or the refusal with the place of the first
+// bad record.
 pub fn run_check(
     text: &[u8],
     rows: usize,

@@ -1,9 +1,9 @@
-// Bijections for Rust and C: a bijection passes as its two columns, in which 256 stands for no image and no preimage. An operation takes the columns
-// and leaves its answer's there; refused, it leaves them as they were.
+// Bijections for Rust and C: a bijection passes as its two columns, in which 256 stands for no image and no preimage.
+// An operation takes the columns and leaves its answer's there; refused, it leaves them as they were.
 ghost use mathlib.Core.Path.{_≡_};
 ghost use Rattle.mapping.specs.Bijections.{emptyBijection, pairOf, invertOf, composeOf};
 ghost use Rattle.shapes.specs.Said.{saidNumber};
-ghost use Rattle.values.specs.Bijections.{bijectionIn};
+ghost use Rattle.values.specs.Bijections.{fromColumns};
 use values::bijections::bijection_in;
 use values::bijections::write_answer;
 use values::bijections::write_columns;
@@ -11,7 +11,7 @@ use values::bijections::write_columns;
 // The bijection with no pair.
 #[no_mangle]
 pub extern "C" fn colourway_bijection_empty(forward: &mut [u16; 256], backward: &mut [u16; 256])
-    ensures { λ r. ⌜ bijectionIn (now (forward .exit)) (now (backward .exit)) ≡ emptyBijection ⌝ }
+    ensures { λ r. ⌜ fromColumns (now (forward .exit)) (now (backward .exit)) ≡ emptyBijection ⌝ }
 {
     write_columns(mapping::bijections::empty(), forward, backward);
 }
@@ -24,10 +24,10 @@ pub extern "C" fn colourway_bijection_pair(
     a: u8,
     c: u8,
 ) -> u8
-    ensures { λ r. ⌜ r ≡ saidNumber (pairOf (bijectionIn (now (forward .entry)) (now (backward .entry))) a c .said) ⌝ }
+    ensures { λ r. ⌜ r ≡ saidNumber (pairOf (fromColumns (now (forward .entry)) (now (backward .entry))) a c .said) ⌝ }
     ensures { λ r. ⌜
-        bijectionIn (now (forward .exit)) (now (backward .exit))
-        ≡ pairOf (bijectionIn (now (forward .entry)) (now (backward .entry))) a c .bijection ⌝ }
+        fromColumns (now (forward .exit)) (now (backward .exit))
+        ≡ pairOf (fromColumns (now (forward .entry)) (now (backward .entry))) a c .bijection ⌝ }
 {
     let answer = mapping::bijections::pair(bijection_in(forward, backward), a, c);
     write_answer(answer, forward, backward)
@@ -39,10 +39,10 @@ pub extern "C" fn colourway_bijection_invert(
     forward: &mut [u16; 256],
     backward: &mut [u16; 256],
 ) -> u8
-    ensures { λ r. ⌜ r ≡ saidNumber (invertOf (bijectionIn (now (forward .entry)) (now (backward .entry))) .said) ⌝ }
+    ensures { λ r. ⌜ r ≡ saidNumber (invertOf (fromColumns (now (forward .entry)) (now (backward .entry))) .said) ⌝ }
     ensures { λ r. ⌜
-        bijectionIn (now (forward .exit)) (now (backward .exit))
-        ≡ invertOf (bijectionIn (now (forward .entry)) (now (backward .entry))) .bijection ⌝ }
+        fromColumns (now (forward .exit)) (now (backward .exit))
+        ≡ invertOf (fromColumns (now (forward .entry)) (now (backward .entry))) .bijection ⌝ }
 {
     let answer = mapping::bijections::invert(bijection_in(forward, backward));
     write_answer(answer, forward, backward)
@@ -57,12 +57,12 @@ pub extern "C" fn colourway_bijection_compose(
     other_backward: &[u16; 256],
 ) -> u8
     ensures { λ r. ⌜
-        r ≡ saidNumber (composeOf (bijectionIn (now (forward .entry)) (now (backward .entry)))
-        (bijectionIn (now («other_forward» .entry)) (now («other_backward» .entry))) .said) ⌝ }
+        r ≡ saidNumber (composeOf (fromColumns (now (forward .entry)) (now (backward .entry)))
+        (fromColumns (now («other_forward» .entry)) (now («other_backward» .entry))) .said) ⌝ }
     ensures { λ r. ⌜
-        bijectionIn (now (forward .exit)) (now (backward .exit))
-        ≡ composeOf (bijectionIn (now (forward .entry)) (now (backward .entry)))
-        (bijectionIn (now («other_forward» .entry)) (now («other_backward» .entry))) .bijection ⌝ }
+        fromColumns (now (forward .exit)) (now (backward .exit))
+        ≡ composeOf (fromColumns (now (forward .entry)) (now (backward .entry)))
+        (fromColumns (now («other_forward» .entry)) (now («other_backward» .entry))) .bijection ⌝ }
 {
     let other = bijection_in(other_forward, other_backward);
     let answer = mapping::bijections::compose(bijection_in(forward, backward), other);

@@ -1,15 +1,16 @@
 // The check of a listing for Rust and C.
 ghost use mathlib.Core.Path.{_≡_};
+ghost use Rattle.theory.specs.Bytes.{Bytes};
 ghost use Rattle.shapes.specs.Said.{saidNumber};
 ghost use Rattle.shapes.specs.Questions.{ask};
 ghost use Rattle.verify.specs.Check.{checkOf};
-ghost use Rattle.values.specs.Checking.{countsBy};
+ghost use Rattle.values.specs.Returned.{valuesBy};
 use values::checking::checked_number;
 use values::checking::checked_totals;
 use verify::check::check;
 
-// Checks a listing for a text and a pattern (document 01, 'Reading and checking'). Found and refused go to totals; refused by 6 or 7, the place of the
-// first bad record and a zero. Any other refusal changes nothing.
+// Checks a listing for a text and a pattern (document 01, 'Reading and checking'). Found and refused go to totals;
+// refused by 6 or 7, the place of the first bad record goes to the first of them. Nothing else is changed.
 #[no_mangle]
 pub extern "C" fn colourway_check(
     text: &[u8],
@@ -25,9 +26,10 @@ pub extern "C" fn colourway_check(
         r ≡ saidNumber
         (checkOf (ask (now (text .entry)) rows columns (now (pattern .entry)) height width) (now (listing .entry))) ⌝ }
     ensures { λ r. ⌜
-        now (totals .exit)
-        ≡ countsBy (checkOf (ask (now (text .entry)) rows columns (now (pattern .entry)) height width) (now (listing .entry)))
+        now (totals .exit) ≡ valuesBy 0
+        (checkOf (ask (now (text .entry)) rows columns (now (pattern .entry)) height width) (now (listing .entry)))
         (now (totals .entry)) ⌝ }
+    ensures { λ r. ⌜ Bytes (now (text .entry)) × Bytes (now (pattern .entry)) × Bytes (now (listing .entry)) ⌝ }
 {
     let answer = check(text, rows, columns, pattern, height, width, listing);
     let number = checked_number(answer);

@@ -3,15 +3,16 @@ ghost use mathlib.Core.Path.{_≡_};
 ghost use Rattle.shapes.specs.Said.{saidNumber};
 ghost use Rattle.shapes.specs.Questions.{ask};
 ghost use Rattle.matching.specs.Compare.{windowSaid};
-ghost use Rattle.values.specs.Bijections.{bijectionIn};
+ghost use Rattle.values.specs.Bijections.{fromColumns};
 ghost use Rattle.values.specs.Compare.{windowMismatch, windowBijection};
 use matching::compare::one_window;
 use values::bijections::write_columns;
 use values::compare::verdict_number;
 use values::compare::verdict_values;
 
-// Whether the pattern matches the window of its size at that corner of a text (document 01, 'One window'). The bijection's columns go to forward and
-// backward; a mismatch, as the kind of its record and its earlier and later cell by position, to mismatch. A refusal changes none of them.
+// Whether the pattern matches the window of its size at that corner of a text (document 01, 'One window'). The
+// bijection's columns go to forward and backward; a mismatch, as the kind of its record and its earlier and later cell
+// by position, to mismatch. A refusal changes none of them.
 #[no_mangle]
 pub extern "C" fn colourway_one_window(
     text: &[u8],
@@ -30,9 +31,9 @@ pub extern "C" fn colourway_one_window(
         r ≡ saidNumber (windowSaid (ask (now (text .entry)) rows columns (now (pattern .entry)) height width) row
         column) ⌝ }
     ensures { λ r. ⌜
-        bijectionIn (now (forward .exit)) (now (backward .exit))
+        fromColumns (now (forward .exit)) (now (backward .exit))
         ≡ windowBijection (ask (now (text .entry)) rows columns (now (pattern .entry)) height width) row column
-        (bijectionIn (now (forward .entry)) (now (backward .entry))) ⌝ }
+        (fromColumns (now (forward .entry)) (now (backward .entry))) ⌝ }
     ensures { λ r. ⌜
         now (mismatch .exit)
         ≡ windowMismatch (ask (now (text .entry)) rows columns (now (pattern .entry)) height width) row column

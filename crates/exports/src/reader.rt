@@ -2,14 +2,14 @@
 ghost use mathlib.Core.Path.{_≡_};
 ghost use Rattle.shapes.specs.Said.{saidNumber};
 ghost use Rattle.listing.specs.Reader.{cursorSaid};
-ghost use Rattle.values.specs.Reader.{HandsOver};
+ghost use Rattle.values.specs.Reader.{fieldsBy, nextBy};
 use listing::reader::Cursor;
-use listing::reader::Read;
-use shapes::refusals::refusal_number;
-use values::reader::fields_of;
+use values::reader::read_fields;
+use values::reader::read_number;
+use values::reader::read_place;
 
-// The record at a place of a listing (document 01, 'Reading and checking'): its numbers go to fields, the place after it to next. A refusal leaves fields
-// as they are, and next is the place.
+// The record at a place of a listing (document 01, 'Reading and checking'): its numbers go to fields, the place after
+// it to next. A refusal leaves fields as they are, and next is the place that it returns.
 #[no_mangle]
 pub extern "C" fn colourway_read(
     listing: &[u8],
@@ -18,20 +18,12 @@ pub extern "C" fn colourway_read(
     next: &mut [usize; 1],
 ) -> u8
     ensures { λ r. ⌜ r ≡ saidNumber (cursorSaid (now (listing .entry)) at) ⌝ }
-    ensures { λ r. ⌜
-        HandsOver (now (listing .entry)) at (now (fields .entry)) (now (fields .exit)) (now (next .exit)) ⌝ }
+    ensures { λ r. ⌜ now (fields .exit) ≡ fieldsBy (cursorSaid (now (listing .entry)) at) (now (fields .entry)) ⌝ }
+    ensures { λ r. ⌜ now (next .exit) ≡ nextBy (cursorSaid (now (listing .entry)) at) ⌝ }
 {
     let cursor = Cursor { at };
     let answer = cursor.read(listing);
-    match answer {
-        Read::Whole(item, after) => {
-            *fields = fields_of(item);
-            *next = [after.at];
-            0
-        }
-        Read::Refused(why) => {
-            *next = [at];
-            refusal_number(why)
-        }
-    }
+    *fields = read_fields(answer, *fields);
+    *next = [read_place(answer, next[0])];
+    read_number(answer)
 }

@@ -1,15 +1,16 @@
 // The search for Rust and C.
 ghost use mathlib.Core.Path.{_≡_};
+ghost use Rattle.theory.specs.Bytes.{Bytes};
 ghost use Rattle.shapes.specs.Said.{saidNumber};
 ghost use Rattle.shapes.specs.Questions.{ask};
 ghost use Rattle.search.specs.Search.{lend, searchOf};
-ghost use Rattle.values.specs.Searching.{totalsBy};
+ghost use Rattle.values.specs.Returned.{valuesBy};
 use search::search::search;
 use values::searching::searched_number;
-use values::searching::totals_in;
+use values::searching::searched_totals;
 
-// Searches a text for a pattern (document 01, 'Search and listing'). Found, refused and the length go to totals; refused by 11, two zeros and the length
-// needed. Any other refusal changes nothing.
+// Searches a text for a pattern (document 01, 'Search and listing'). Found, refused and the length go to totals;
+// refused by 11, the length needed goes to the last of them. Any other refusal changes nothing.
 #[no_mangle]
 pub extern "C" fn colourway_search(
     text: &[u8],
@@ -28,7 +29,7 @@ pub extern "C" fn colourway_search(
         r ≡ saidNumber (searchOf (ask (now (text .entry)) rows columns (now (pattern .entry)) height width)
         (lend (now (links .entry)) (now (counts .entry)) (now (flags .entry)) (now (listing .entry))) .said) ⌝ }
     ensures { λ r. ⌜
-        now (totals .exit) ≡ totalsBy
+        now (totals .exit) ≡ valuesBy 2
         (searchOf (ask (now (text .entry)) rows columns (now (pattern .entry)) height width)
         (lend (now (links .entry)) (now (counts .entry)) (now (flags .entry)) (now (listing .entry))) .said)
         (now (totals .entry)) ⌝ }
@@ -36,6 +37,7 @@ pub extern "C" fn colourway_search(
         lend (now (links .exit)) (now (counts .exit)) (now (flags .exit)) (now (listing .exit))
         ≡ searchOf (ask (now (text .entry)) rows columns (now (pattern .entry)) height width)
         (lend (now (links .entry)) (now (counts .entry)) (now (flags .entry)) (now (listing .entry))) .lent ⌝ }
+    ensures { λ r. ⌜ Bytes (now (text .entry)) × Bytes (now (pattern .entry)) ⌝ }
 {
     let answer = search(
         text,
@@ -50,6 +52,6 @@ pub extern "C" fn colourway_search(
         listing,
     );
     let number = searched_number(answer);
-    *totals = totals_in(answer, *totals);
+    *totals = searched_totals(answer, *totals);
     number
 }

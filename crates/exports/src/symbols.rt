@@ -5,7 +5,8 @@ ghost use Rattle.values.specs.Symbols.{wordsOf, symbolsIn};
 use values::symbols::symbols_in;
 use values::symbols::words_of;
 
-// The set of a pattern's symbols (document 01, 'Tallies'), as four words: bit k of word i is 1 where symbol 64 i + k is in the set.
+// The set of a pattern's symbols (document 01, 'Tallies'), as four words: bit k of word i is 1 where symbol 64 i + k is
+// in the set.
 #[no_mangle]
 pub extern "C" fn colourway_symbols(pattern: &[u8], words: &mut [u64; 4])
     ensures { λ r. ⌜ now (words .exit) ≡ wordsOf (symbolSet (now (pattern .entry))) ⌝ }

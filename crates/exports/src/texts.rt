@@ -1,10 +1,9 @@
 // Texts and their windows for Rust and C.
 ghost use mathlib.Core.Path.{_≡_};
-ghost use lib.ListN.{length};
 ghost use Rattle.shapes.specs.Said.{saidNumber};
 ghost use Rattle.shapes.specs.Questions.{fourSides};
-ghost use Rattle.grid.specs.Strips.{linksSaid, linksAfter};
-ghost use Rattle.grid.specs.Counts.{countsSaid, countsAfter};
+ghost use Rattle.grid.specs.Strips.{linksOf, stripFrom};
+ghost use Rattle.grid.specs.Counts.{countsOf};
 ghost use Rattle.shapes.specs.Windows.{cellOf, cellNumber};
 use shapes::refusals::outcome_number;
 use shapes::windows::Cell;
@@ -20,8 +19,11 @@ pub extern "C" fn colourway_strip_links(
     links: &mut [u16],
 ) -> u8
     ensures { λ r. ⌜
-        r ≡ saidNumber (linksSaid (now (text .entry)) rows columns width left (length (now (links .entry)))) ⌝ }
-    ensures { λ r. ⌜ now (links .exit) ≡ linksAfter (now (text .entry)) rows columns width left (now (links .entry)) ⌝ }
+        r ≡ saidNumber
+        (linksOf (now (text .entry)) (stripFrom rows columns width left) (now (links .entry)) .said) ⌝ }
+    ensures { λ r. ⌜
+        now (links .exit)
+        ≡ linksOf (now (text .entry)) (stripFrom rows columns width left) (now (links .entry)) .buffer ⌝ }
 {
     outcome_number(grid::strips::strip_links(text, rows, columns, width, left, links))
 }
@@ -38,10 +40,10 @@ pub extern "C" fn colourway_distinct_counts(
 ) -> u8
     ensures { λ r. ⌜
         r ≡ saidNumber
-        (countsSaid (now (text .entry)) (fourSides rows columns height width) (length (now (counts .entry)))) ⌝ }
+        (countsOf (now (text .entry)) (fourSides rows columns height width) (now (counts .entry)) .said) ⌝ }
     ensures { λ r. ⌜
         now (counts .exit)
-        ≡ countsAfter (now (text .entry)) (fourSides rows columns height width) (now (counts .entry)) ⌝ }
+        ≡ countsOf (now (text .entry)) (fourSides rows columns height width) (now (counts .entry)) .buffer ⌝ }
 {
     outcome_number(grid::counts::distinct_counts(text, rows, columns, height, width, counts))
 }

@@ -1,5 +1,6 @@
--- Observations 3 and 1 of document 004, from the laws that the lower library states of links and distinct counts: a window matches exactly if every
--- linked pair with both ends in it has equal symbols in the pattern, and window and pattern have equally many different symbols.
+-- Observations 3 and 1 of document 004, from the laws that the lower library states of links and distinct counts: a
+-- window matches exactly if every linked pair with both ends in it has equal symbols in the pattern, and window and
+-- pattern have equally many different symbols.
 -- Assumes nothing.
 use mathlib.Core.Path.{_≡_, refl, sym, _∙_, ap, subst}
 use mathlib.Core.Bool.{Bool}
@@ -7,14 +8,18 @@ use mathlib.Core.Logic.{_↔_}
 use Prim.Native.Nat.{ℕ, zero, suc, _+_, _-_, _≤_, _<_}
 use native.Mathlib.Omega.{arith}
 use lib.Dec.{eqb}
-use Rattle.theory.specs.Test.{Tested, holds, fails, lt-tested, eq-tested, says-true, true-false, is-true}
-use Rattle.theory.specs.First.{first, First, first-spec}
-use Rattle.theory.specs.Table.{table, table-zero}
+use Rattle.theory.specs.Test.{Tested, holds, fails}
+use Rattle.theory.specs.Test.Laws.{lt-tested, eq-tested, says-true, true-false, is-true}
+use Rattle.theory.specs.First.{first, First}
+use Rattle.theory.specs.First.Laws.{first-spec}
+use Rattle.theory.specs.Table.{table}
+use Rattle.theory.specs.Table.Laws.{table-zero}
 use Rattle.theory.specs.Match.{Matches, imageOf}
 use Rattle.theory.specs.Match.Even.{Alike, Even, maps-even, even-maps}
-use Rattle.grid.specs.Distinct.{distinct, distinct-next-new, distinct-next-old}
+use Rattle.grid.specs.Distinct.{distinct}
+use Rattle.grid.specs.Distinct.Laws.{distinct-next-new, distinct-next-old}
 use Rattle.grid.specs.Strips.{link}
-use Rattle.grid.specs.Strips.Links.{link-back, Chain, there, onward, chain}
+use Rattle.grid.specs.Strips.Links.{link-back, Chain, there, chain-onward, chain}
 
 -- the window's symbols determine the pattern's
 abbrev pub Determines : (ℕ → ℕ) → (ℕ → ℕ) → ℕ → Type 0
@@ -22,7 +27,8 @@ Determines w m n = (q p : ℕ) → q < n → p < n → w q ≡ w p → m q ≡ m
 
 -- every linked pair of the strip with both ends in the window that starts at base has equal symbols in the pattern
 abbrev pub LinksAgree : (ℕ → ℕ) → ℕ → (ℕ → ℕ) → ℕ → Type 0
-LinksAgree s base m n = (p : ℕ) → p < n → 0 < link s (base + p) → link s (base + p) ≤ p → m (p - link s (base + p)) ≡ m p
+LinksAgree s base m n =
+    (p : ℕ) → p < n → 0 < link s (base + p) → link s (base + p) ≤ p → m (p - link s (base + p)) ≡ m p
 
 -- ---- Observation 3
 
@@ -32,7 +38,7 @@ module _ (s : ℕ → ℕ) (base : ℕ) (m : ℕ → ℕ) (n : ℕ) where
   along agree q there p e h =
       let same : q ≡ p = omega arith in
       ap m same
-  along agree q (onward {p = at} pos within rest) p e h =
+  along agree q (chain-onward {p = at} pos within rest) p e h =
       let here : link s at ≡ link s (base + p) = ap (link s) e in
       let inside : link s (base + p) ≤ p = omega arith in
       along agree q rest (p - link s (base + p)) (omega arith) (omega arith) ∙ agree p h (omega arith) inside
@@ -41,7 +47,8 @@ module _ (s : ℕ → ℕ) (base : ℕ) (m : ℕ → ℕ) (n : ℕ) where
   links-determine w is = (forth, back)
     where
       ordered : LinksAgree s base m n → (q p : ℕ) → q ≤ p → q < n → p < n → w q ≡ w p → m q ≡ m p
-      ordered agree q p l hq hp e = along agree q (chain s (base + q) (base + p) (omega arith) (sym (is q hq) ∙ e ∙ is p hp)) p refl hp
+      ordered agree q p l hq hp e =
+          along agree q (chain s (base + q) (base + p) (omega arith) (sym (is q hq) ∙ e ∙ is p hp)) p refl hp
 
       forth : LinksAgree s base m n → Determines w m n
       forth agree q p hq hp e = go (lt-tested p q)
@@ -54,7 +61,8 @@ module _ (s : ℕ → ℕ) (base : ℕ) (m : ℕ → ℕ) (n : ℕ) where
       back determine p h pos inside =
           let b = link-back s (base + p) pos in
           let place : base + p - link s (base + p) ≡ base + (p - link s (base + p)) = omega arith in
-          determine (p - link s (base + p)) p (omega arith) h (is _ (omega arith) ∙ ap s (sym place) ∙ b .same ∙ sym (is p h))
+          determine (p - link s (base + p)) p (omega arith) h
+          (is _ (omega arith) ∙ ap s (sym place) ∙ b .same ∙ sym (is p h))
 
 -- ---- Observation 1
 
@@ -74,7 +82,8 @@ earlier w n = go (lt-tested k n)
 
     go : {t : Bool} → Tested (k < n) t → Earlier w n
     go (holds h) = seen k h (says-true (eq-tested _ _) (f .hit h))
-    go (fails g) = new (λ q h e. true-false (is-true (eq-tested (w q) (w n)) e) (f .before q (omega (arith, f .within))))
+    go (fails g) =
+        new (λ q h e. true-false (is-true (eq-tested (w q) (w n)) e) (f .before q (omega (arith, f .within))))
 
 module _ (m w : ℕ → ℕ) where
   -- what the induction on the positions carries
@@ -97,13 +106,19 @@ module _ (m w : ℕ → ℕ) where
       go (fails a) (holds b) =
           let e : n ≡ q = omega arith in
           let l = like p b in
-          subst (λ (i : ℕ). Alike (m i) (m p) (w i) (w p)) e (record { there = λ x. sym (l .there (sym x)); back = λ x. sym (l .back (sym x)) })
+          subst (λ (i : ℕ). Alike (m i) (m p) (w i) (w p)) e
+          (record { there = λ x. sym (l .there (sym x)); back = λ x. sym (l .back (sym x)) })
       go (fails a) (fails b) =
           let e : q ≡ p = omega arith in
           record { there = λ _. ap w e; back = λ _. ap m e }
 
   counted : (n : ℕ) → Determines w m n → Counted n
-  counted zero d = record { at-most = omega (arith, ap distinct (table-zero m), ap distinct (table-zero w)); equal-even = λ _. even-none }
+  counted zero d =
+      record {
+        at-most = omega (arith, ap distinct (table-zero m), ap distinct (table-zero w));
+        equal-even = λ _.
+            even-none;
+      }
   counted (suc n) d = go (counted n (λ q p hq hp e. d q p (omega arith) (omega arith) e)) (earlier m n) (earlier w n)
     where
       go : Counted n → Earlier m n → Earlier w n → Counted (suc n)
@@ -115,7 +130,8 @@ module _ (m w : ℕ → ℕ) where
             at-most = omega (arith, c .at-most);
             equal-even = λ z.
                 let ev = c .equal-even (sym dm ∙ z ∙ dw) in
-                even-next n ev (λ k l. record { there = λ u. ev k q l h .there (u ∙ sym y) ∙ x; back = λ u. ev k q l h .back (u ∙ sym x) ∙ y });
+                even-next n ev (λ k l. record
+                { there = λ u. ev k q l h .there (u ∙ sym y) ∙ x; back = λ u. ev k q l h .back (u ∙ sym x) ∙ y });
           }
       go c (seen q h y) (new none) =
           let dm = distinct-next-old m n q h y in
@@ -123,8 +139,10 @@ module _ (m w : ℕ → ℕ) where
           let l = c .at-most in
           record { at-most = omega arith; equal-even = λ z. absurd (never dm dw l z) }
         where
-          never : distinct (table m (suc n)) ≡ distinct (table m n) → distinct (table w (suc n)) ≡ distinct (table w n) + 1
-              → distinct (table m n) ≤ distinct (table w n) → distinct (table m (suc n)) ≡ distinct (table w (suc n)) → ⊥
+          never : distinct (table m (suc n)) ≡ distinct (table m n)
+              → distinct (table w (suc n)) ≡ distinct (table w n) + 1
+              → distinct (table m n) ≤ distinct (table w n) → distinct (table m (suc n)) ≡ distinct (table w (suc n))
+              → ⊥
           never a b l z = omega arith
       go c (new nm) (new nw) =
           let dm = distinct-next-new m n nm in
@@ -141,9 +159,11 @@ module _ (m w : ℕ → ℕ) where
   even-counts zero ev = ap distinct (table-zero m) ∙ sym (ap distinct (table-zero w))
   even-counts (suc n) ev = go (even-counts n (λ q p hq hp. ev q p (omega arith) (omega arith))) (earlier m n)
     where
-      go : distinct (table m n) ≡ distinct (table w n) → Earlier m n → distinct (table m (suc n)) ≡ distinct (table w (suc n))
+      go : distinct (table m n) ≡ distinct (table w n) → Earlier m n
+          → distinct (table m (suc n)) ≡ distinct (table w (suc n))
       go ih (seen q h y) =
-          distinct-next-old m n q h y ∙ ih ∙ sym (distinct-next-old w n q h (ev q n (omega arith) (omega arith) .there y))
+          distinct-next-old m n q h y ∙ ih
+          ∙ sym (distinct-next-old w n q h (ev q n (omega arith) (omega arith) .there y))
       go ih (new none) =
           distinct-next-new m n none ∙ ap (λ (k : ℕ). k + 1) ih
           ∙ sym (distinct-next-new w n (λ q h x. none q h (ev q n (omega arith) (omega arith) .back x)))

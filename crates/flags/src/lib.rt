@@ -1,2 +1,3 @@
 // The flag of every window, which the search begins with.
 pub mod flags;
+pub mod run;

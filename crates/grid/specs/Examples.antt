@@ -5,16 +5,21 @@ use mathlib.Core.List.{List, [], _∷_, _++_}
 use Prim.Native.Nat.{ℕ, _+_, _≤_}
 use native.Mathlib.Omega.{arith}
 use lib.ListN.{length}
-use Rattle.theory.specs.Test.{is-true}
+use Rattle.theory.specs.Test.Laws.{is-true}
 use Rattle.theory.specs.Table.{table}
-use Rattle.shapes.specs.Shapes.{Shaped, Side, corner-inside}
-use Rattle.shapes.specs.Windows.{example-text, example-cells, example-strips, example-length}
-use Rattle.grid.specs.Distinct.{distinct, example-distinct}
-use Rattle.shapes.specs.Said.{accepts}
+use Rattle.shapes.specs.Shapes.{Shaped, Side}
+use Rattle.shapes.specs.Shapes.Laws.{corner-inside}
+use Rattle.shapes.specs.Windows.Laws.{example-text, example-cells, example-strips, example-length}
+use Rattle.grid.specs.Distinct.{distinct}
+use Rattle.grid.specs.Distinct.Laws.{example-distinct}
+use Rattle.shapes.specs.Said.{accepts, filled}
+use Rattle.shapes.specs.declared.refusals.Outcome.the-variants.{Accepted}
 use Rattle.shapes.specs.Questions.{fourSides}
-use Rattle.grid.specs.Strips.{linksSaid, linksAfter, links-accepted, links-after}
+use Rattle.grid.specs.Strips.{linksSaid, linksOf, stripFrom}
+use Rattle.grid.specs.Strips.Laws.{links-accepted, links-new}
 use Rattle.grid.specs.Strips.Links.{links-of-list, example-link-values}
-use Rattle.grid.specs.Counts.{countsAfter, counts-accepted, counts-after, window-count}
+use Rattle.grid.specs.Counts.{countsOf}
+use Rattle.grid.specs.Counts.Laws.{counts-accepted, counts-new, window-count}
 
 side : (n : ℕ) → 1 ≤ n → n ≤ 255 → Side n
 side n h k = record { positive = h; small = k }
@@ -35,25 +40,28 @@ shape =
       cells-is = example-length;
     }
 
-links-good : (left : ℕ) → left + 2 ≤ 3 → linksSaid example-text 2 3 2 left 5 ≡ accepts []
+links-good : (left : ℕ) → left + 2 ≤ 3 → linksSaid example-text (stripFrom 2 3 2 left) 5 ≡ accepts []
 links-good left h =
-    sym (links-accepted example-text 2 3 2 left 5 shape (is-true (corner-inside 2 3 2 2 0 left) (record { row-le = omega arith; column-le = h })) (omega arith))
+    sym (links-accepted example-text (stripFrom 2 3 2 left) 5 shape
+    (is-true (corner-inside 2 3 2 2 0 left) (record { row-le = omega arith; column-le = h })) (omega arith))
 
 -- ★ 'Its links for c = 2: strip 0 gives 0 1 0 2, strip 1 gives 0 0 2 1', in a buffer of five entries 9
-pub example-links : (linksAfter example-text 2 3 2 0 (9 ∷ 9 ∷ 9 ∷ 9 ∷ 9 ∷ []) ≡ 0 ∷ 1 ∷ 0 ∷ 2 ∷ 9 ∷ [])
-    × (linksAfter example-text 2 3 2 1 (9 ∷ 9 ∷ 9 ∷ 9 ∷ 9 ∷ []) ≡ 0 ∷ 0 ∷ 2 ∷ 1 ∷ 9 ∷ [])
+pub example-links :
+    (linksOf example-text (stripFrom 2 3 2 0) (9 ∷ 9 ∷ 9 ∷ 9 ∷ 9 ∷ []) ≡ filled Accepted (0 ∷ 1 ∷ 0 ∷ 2 ∷ 9 ∷ []))
+    × (linksOf example-text (stripFrom 2 3 2 1) (9 ∷ 9 ∷ 9 ∷ 9 ∷ 9 ∷ []) ≡ filled Accepted (0 ∷ 0 ∷ 2 ∷ 1 ∷ 9 ∷ []))
 example-links = (
-  links-after example-text 2 3 2 0 (9 ∷ 9 ∷ 9 ∷ 9 ∷ 9 ∷ []) (links-good 0 (omega arith))
-      ∙ ap (λ (l : List ℕ). l ++ (9 ∷ [])) (links-of-list _ 4 _ (example-strips .0) ∙ example-link-values .0),
-  links-after example-text 2 3 2 1 (9 ∷ 9 ∷ 9 ∷ 9 ∷ 9 ∷ []) (links-good 1 (omega arith))
-      ∙ ap (λ (l : List ℕ). l ++ (9 ∷ [])) (links-of-list _ 4 _ (example-strips .1) ∙ example-link-values .1),
+  sym (links-new example-text (stripFrom 2 3 2 0) (9 ∷ 9 ∷ 9 ∷ 9 ∷ 9 ∷ []) _ (links-good 0 (omega arith))
+      (sym (ap (λ (l : List ℕ). l ++ (9 ∷ [])) (links-of-list _ 4 _ (example-strips .0) ∙ example-link-values .0)))),
+  sym (links-new example-text (stripFrom 2 3 2 1) (9 ∷ 9 ∷ 9 ∷ 9 ∷ 9 ∷ []) _ (links-good 1 (omega arith))
+      (sym (ap (λ (l : List ℕ). l ++ (9 ∷ [])) (links-of-list _ 4 _ (example-strips .1) ∙ example-link-values .1)))),
 )
 
 -- ★ 'Its tallies: 2, 2', in a buffer of three entries 9
-pub example-counts : countsAfter example-text (fourSides 2 3 2 2) (9 ∷ 9 ∷ 9 ∷ []) ≡ 2 ∷ 2 ∷ 9 ∷ []
+pub example-counts : countsOf example-text (fourSides 2 3 2 2) (9 ∷ 9 ∷ 9 ∷ []) ≡ filled Accepted (2 ∷ 2 ∷ 9 ∷ [])
 unfolding table
 example-counts =
-    counts-after example-text (fourSides 2 3 2 2) (9 ∷ 9 ∷ 9 ∷ []) (sym (counts-accepted example-text (fourSides 2 3 2 2) 3 shape (omega arith)))
-    ∙ ap₂ (λ (a b : ℕ). a ∷ b ∷ 9 ∷ [])
+    sym (counts-new example-text (fourSides 2 3 2 2) (9 ∷ 9 ∷ 9 ∷ []) _
+    (sym (counts-accepted example-text (fourSides 2 3 2 2) 3 shape (omega arith)))
+    (sym (ap₂ (λ (a b : ℕ). a ∷ b ∷ 9 ∷ [])
     (window-count example-text 3 2 2 0 0 (omega arith) ∙ ap distinct (example-cells .0) ∙ example-distinct .0)
-    (window-count example-text 3 2 2 0 1 (omega arith) ∙ ap distinct (example-cells .1) ∙ example-distinct .1)
+    (window-count example-text 3 2 2 0 1 (omega arith) ∙ ap distinct (example-cells .1) ∙ example-distinct .1))))

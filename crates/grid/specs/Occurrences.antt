@@ -1,18 +1,11 @@
 -- Document 01's running tally: how often each symbol stands in a list, and how many different ones do.
 -- Assumes nothing.
-use mathlib.Core.Path.{_≡_, sym, _∙_}
-use mathlib.Core.List.{List, [], _∷_, _++_, append-assoc}
-use Prim.Native.Nat.{ℕ, suc, _+_, _-_, _≤_, _<_}
-use native.Mathlib.Decide.{ℕ-discrete}
-use native.Mathlib.Numerals.{add-one}
-use native.Mathlib.Omega.{arith}
-use lib.Dec.{eqb}
-use lib.ListN.{length, getD, set, take, drop, length-append, length-set, drop-of-length-le}
-use lib.Seq.{take-suc, drop-cons, take-all, length-take-le}
-use borrow.Author.Tests.{eq-eqb, ne-eqb}
-use Rattle.theory.specs.Test.{pick, pick-true, pick-false}
-use Rattle.theory.specs.Store.{set-right}
-use Rattle.grid.specs.Distinct.{occurs, distinct, occurs-none, occurs-hit, occurs-miss, occurs-snoc-hit, occurs-snoc-miss, occurs-le, distinct-none, distinct-new, distinct-old, distinct-snoc, distinct-le, distinct-some}
+pub mod Laws
+use mathlib.Core.Path.{_≡_}
+use mathlib.Core.List.{List, _++_}
+use Prim.Native.Nat.{ℕ, _+_, _≤_, _<_}
+use lib.ListN.{length, getD, drop}
+use Rattle.grid.specs.Distinct.{occurs, distinct}
 
 -- a table of occurrences, and a number of different symbols
 pub record Occurrences : Type 0 where
@@ -29,9 +22,10 @@ pub record Tracks (o : Occurrences) (xs : List ℕ) : Type 0 where
   pub each : (v : ℕ) → v < 256 → getD (o .counts) v 0 ≡ occurs v xs
   pub size-is : o .size ≡ distinct xs
 
--- o tracks a list that has room for n more symbols. No window has more than 65,025 cells, nor one row more than 65,280, so every count fits 16 bits.
-abbrev pub Room : Occurrences → ℕ → Type 0
-Room o n = (xs : List ℕ) × Tracks o xs × (length xs + n ≤ 65535)
+-- o tracks a list that has room for n more symbols. No window has more than 65,025 cells, nor one row more than 65,280,
+-- so every count fits 16 bits.
+abbrev pub RoomToAdd : Occurrences → ℕ → Type 0
+RoomToAdd o n = (xs : List ℕ) × Tracks o xs × (length xs + n ≤ 65535)
 
 -- o tracks a list that starts with ys
 abbrev pub Starts : Occurrences → List ℕ → Type 0
@@ -45,76 +39,8 @@ Adds o ys r = (xs : List ℕ) → Tracks o xs → Tracks r (xs ++ ys)
 abbrev pub Removes : Occurrences → List ℕ → Occurrences → Type 0
 Removes o ys r = (xs : List ℕ) → Tracks o (ys ++ xs) → Tracks r xs
 
--- ---- one symbol in, one symbol out
-
-pub tracks-none : (t : List ℕ) → length t ≡ 256 → ((v : ℕ) → v < 256 → getD t v 0 ≡ 0) → Tracks (occurrencesOf t 0) []
-tracks-none t l z = record { long = l; each = λ v h. z v h ∙ sym (occurs-none v); size-is = sym distinct-none }
-
-module _ (o r : Occurrences) (v : ℕ) (xs : List ℕ) (b : v < 256) where
-  pub tracks-add : Tracks o xs → r .counts ≡ set (o .counts) v (getD (o .counts) v 0 + 1)
-      → r .size ≡ pick (eqb (getD (o .counts) v 0) 0) (o .size + 1) (o .size) → Tracks r (xs ++ (v ∷ []))
-  tracks-add k c s = record {
-    long = rw (c, length-set) (k .long);
-    each = λ w h. rw c (set-right (o .counts) v _ w (λ (u : ℕ). occurs u (xs ++ (v ∷ []))) (omega arith)
-        (omega (arith, k .each v b, occurs-snoc-hit v xs)) (λ n. k .each w h ∙ sym (occurs-snoc-miss w v xs n)));
-    size-is = s ∙ go (ℕ-discrete (occurs v xs) 0) ∙ sym (distinct-snoc xs v);
-  }
-    where
-      go : Dec (occurs v xs ≡ 0) → pick (eqb (getD (o .counts) v 0) 0) (o .size + 1) (o .size) ≡ distinct (v ∷ xs)
-      go (yes e) = pick-true _ _ (eq-eqb (getD (o .counts) v 0) 0 (k .each v b ∙ e)) ∙ omega (arith, k .size-is, distinct-new v xs e)
-      go (no n) = pick-false _ _ (ne-eqb (getD (o .counts) v 0) 0 (λ z. n (sym (k .each v b) ∙ z))) ∙ omega (arith, k .size-is, distinct-old v xs (omega arith))
-
-  pub tracks-remove : Tracks o (v ∷ xs) → r .counts ≡ set (o .counts) v (getD (o .counts) v 0 - 1)
-      → r .size ≡ pick (eqb (getD (o .counts) v 0) 1) (o .size - 1) (o .size) → Tracks r xs
-  tracks-remove k c s = record {
-    long = rw (c, length-set) (k .long);
-    each = λ w h. rw c (set-right (o .counts) v _ w (λ (u : ℕ). occurs u xs) (omega arith)
-        (omega (arith, k .each v b, occurs-hit v xs)) (λ n. k .each w h ∙ occurs-miss w v xs n));
-    size-is = s ∙ go (ℕ-discrete (occurs v xs) 0);
-  }
-    where
-      one-more : getD (o .counts) v 0 ≡ occurs v xs + 1
-      one-more = k .each v b ∙ occurs-hit v xs
-
-      go : Dec (occurs v xs ≡ 0) → pick (eqb (getD (o .counts) v 0) 1) (o .size - 1) (o .size) ≡ distinct xs
-      go (yes e) = pick-true _ _ (eq-eqb (getD (o .counts) v 0) 1 (omega (arith, one-more))) ∙ omega (arith, k .size-is, distinct-new v xs e)
-      go (no n) = pick-false _ _ (ne-eqb (getD (o .counts) v 0) 1 (λ z. n (omega (arith, one-more)))) ∙ k .size-is ∙ distinct-old v xs (omega arith)
-
--- an occurrence count and the number of different symbols are at most the list's length, and at least 1 where a symbol is there
-module _ (o : Occurrences) where
-  pub count-le : (v : ℕ) (xs : List ℕ) → v < 256 → Tracks o xs → getD (o .counts) v 0 ≤ length xs
-  count-le v xs b k = rw (k .each v b) (occurs-le v xs)
-
-  pub size-le : (xs : List ℕ) → Tracks o xs → o .size ≤ length xs
-  size-le xs k = rw (k .size-is) (distinct-le xs)
-
-  pub count-some : (v : ℕ) (xs : List ℕ) → v < 256 → Tracks o (v ∷ xs) → 1 ≤ getD (o .counts) v 0
-  count-some v xs b k = omega (arith, k .each v b, occurs-hit v xs)
-
-  pub size-some : (v : ℕ) (xs : List ℕ) → Tracks o (v ∷ xs) → 1 ≤ o .size
-  size-some v xs k = omega (arith, k .size-is, distinct-some v (v ∷ xs) (omega (arith, occurs-hit v xs)))
-
 -- ---- a row, symbol by symbol
 
 -- n tracks what o tracks without the first i symbols of row
 abbrev pub Dropped : Occurrences → List ℕ → ℕ → Occurrences → Type 0
 Dropped o row i n = (xs : List ℕ) → Tracks o (row ++ xs) → Tracks n (drop i row ++ xs)
-
-module _ (o n : Occurrences) (row : List ℕ) (i : ℕ) where
-  pub adds-room : i < length row → Room o (length row) → Adds o (take i row) n → Room n 1
-  adds-room h m a = (m .0 ++ take i row, a (m .0) (m .1), rw (length-append, length-take-le i row (omega arith)) (omega arith))
-
-  pub adds-more : (r : Occurrences) → i < length row → Adds o (take i row) n → Adds n (getD row i 0 ∷ []) r → Adds o (take (i + 1) row) r
-  adds-more r h a b xs k = rw (add-one, take-suc row i 0, ← append-assoc) (b (xs ++ take i row) (a xs k))
-
-  pub adds-all : length row ≤ i → Adds o (take i row) n → Adds o row n
-  adds-all h a = rw take-all at a
-
-  pub dropped-start : i < length row → Starts o row → Dropped o row i n → Starts n (getD row i 0 ∷ [])
-  dropped-start h m a = (drop (suc i) row ++ m .0, rw (drop-cons row i 0) at (a (m .0) (m .1)))
-
-  pub dropped-more : (r : Occurrences) → i < length row → Dropped o row i n → Removes n (getD row i 0 ∷ []) r → Dropped o row (i + 1) r
-  dropped-more r h a b xs k = rw add-one (b (drop (suc i) row ++ xs) (rw (drop-cons row i 0) at (a xs k)))
-
-  pub dropped-all : length row ≤ i → Dropped o row i n → Removes o row n
-  dropped-all h a xs k = rw drop-of-length-le at (a xs k)

@@ -1,16 +1,16 @@
-// The number of different symbols in each window of a text. The occurrences of each symbol slide down a strip, one row in and one row out
-// for each window, and begin afresh in the next strip.
+// The number of different symbols in each window of a text. The occurrences of each symbol slide down a strip, one row
+// in and one row out for each window, and begin afresh in the next strip.
 ghost use mathlib.Core.Path.{_≡_};
 ghost use mathlib.Core.List.{[], _∷_};
 ghost use Prim.Native.Nat.{_+_, _*_, _≤_, _<_};
 ghost use lib.ListN.{length};
 ghost use Rattle.theory.specs.Store.{stored, storedRows};
-ghost use Rattle.grid.specs.Occurrences.{occurrencesOf, Tracks, Room, Starts, Adds, Removes};
-ghost use Rattle.shapes.specs.Said.{outcomeSaid};
+ghost use Rattle.grid.specs.Occurrences.{occurrencesOf, Tracks, RoomToAdd, Starts, Adds, Removes};
+ghost use Rattle.shapes.specs.Said.{outcomeSaid, filled};
 ghost use Rattle.shapes.specs.Questions.{fourSides};
 ghost use Rattle.shapes.specs.Windows.{rowCells};
 ghost use Rattle.shapes.specs.Shapes.{ShapeOf, across, down};
-ghost use Rattle.grid.specs.Counts.{countsSaid, countsAfter, cellsOf, countOf};
+ghost use Rattle.grid.specs.Counts.{countsSaid, countsOf, stripCells, countOf};
 use shapes::refusals::Outcome;
 use shapes::refusals::Reason;
 use shapes::refusals::Refusal;
@@ -32,7 +32,7 @@ fn clear(occurrences: &mut [u32; 256])
 
 // One symbol enters; the number of different ones afterwards.
 fn add_symbol(occurrences: &mut [u32; 256], size: u32, v: u8) -> u32
-    requires { ⌜ Room (occurrencesOf (now occurrences) size) 1 ⌝ }
+    requires { ⌜ RoomToAdd (occurrencesOf (now occurrences) size) 1 ⌝ }
     ensures { λ r. ⌜
         Adds (occurrencesOf (now (occurrences .entry)) size) (v ∷ []) (occurrencesOf (now (occurrences .exit)) r) ⌝ }
 {
@@ -56,7 +56,7 @@ fn remove_symbol(occurrences: &mut [u32; 256], size: u32, v: u8) -> u32
 
 // A row's symbols enter.
 fn add_row(occurrences: &mut [u32; 256], size: u32, row: &[u8]) -> u32
-    requires { ⌜ Room (occurrencesOf (now occurrences) size) (length (now row)) ⌝ }
+    requires { ⌜ RoomToAdd (occurrencesOf (now occurrences) size) (length (now row)) ⌝ }
     ensures { λ r. ⌜
         Adds (occurrencesOf (now (occurrences .entry)) size) (now (row .entry))
         (occurrencesOf (now (occurrences .exit)) r) ⌝ }
@@ -100,7 +100,7 @@ fn add_window(occurrences: &mut [u32; 256], text: &[u8], s: Shape, left: usize) 
         ShapeOf s (length (now text)) × (left + s .width ≤ s .columns)
         × Tracks (occurrencesOf (now occurrences) 0) [] ⌝ }
     ensures { λ r. ⌜
-        Tracks (occurrencesOf (now (occurrences .exit)) r) (cellsOf (now (text .entry)) s 0 left (s .height)) ⌝ }
+        Tracks (occurrencesOf (now (occurrences .exit)) r) (stripCells (now (text .entry)) s 0 left (s .height)) ⌝ }
 {
     let height = s.height;
     let mut size = 0;
@@ -123,11 +123,11 @@ fn slide(
 ) -> u32
     requires { ⌜
         ShapeOf s (length (now text)) × (left + s .width ≤ s .columns) × (top + s .height ≤ s .rows)
-        × Tracks (occurrencesOf (now occurrences) size) (cellsOf (now text) s top left (s .height)) ⌝ }
+        × Tracks (occurrencesOf (now occurrences) size) (stripCells (now text) s top left (s .height)) ⌝ }
     ensures { λ r. ⌜
         (top + s .height < s .rows
         → Tracks (occurrencesOf (now (occurrences .exit)) r)
-        (cellsOf (now (text .entry)) s (top + 1) left (s .height))) ⌝ }
+        (stripCells (now (text .entry)) s (top + 1) left (s .height))) ⌝ }
     ensures { λ r. ⌜ length (now (occurrences .exit)) ≡ 256 ⌝ }
 {
     let next = top + s.height;
@@ -138,7 +138,8 @@ fn slide(
     size
 }
 
-// The counts of the windows at column left, from the top down. The lent table is cleared first: what an earlier strip left in it counts for nothing.
+// The counts of the windows at column left, from the top down. The lent table is cleared first: what an earlier strip
+// left in it counts for nothing.
 fn strip_counts(
     occurrences: &mut [u32; 256],
     text: &[u8],
@@ -210,9 +211,8 @@ pub fn distinct_counts(
     counts: &mut [u16],
 ) -> Outcome
     ensures { λ r. ⌜
-        outcomeSaid r ≡ countsSaid (now (text .entry)) (fourSides rows columns height width) (length (now (counts .entry))) ⌝ }
-    ensures { λ r. ⌜
-        now (counts .exit) ≡ countsAfter (now (text .entry)) (fourSides rows columns height width) (now (counts .entry)) ⌝ }
+        filled r (now (counts .exit))
+        ≡ countsOf (now (text .entry)) (fourSides rows columns height width) (now (counts .entry)) ⌝ }
 {
     let s = Shape {
         rows,

@@ -5,14 +5,16 @@ ghost use lib.Dec.{eqb};
 ghost use lib.ListN.{length};
 ghost use Rattle.theory.specs.Test.{pick};
 ghost use Rattle.theory.specs.Store.{storedRows};
-ghost use Rattle.shapes.specs.Said.{outcomeSaid};
-ghost use Rattle.grid.specs.Strips.{link, linksSaid, linksAfter, stripSymbols, StripOf, LastPlaces, RowAt, Linkable, LinkedRow};
+ghost use Rattle.shapes.specs.Said.{outcomeSaid, filled};
+ghost use Rattle.grid.specs.Strips.{link, linksSaid, linksOf, stripFrom, stripSymbols, StripOf, LastPlaces};
+ghost use Rattle.grid.specs.Strips.{RowFrom, Linkable, LinkedRow};
 use shapes::refusals::Outcome;
 use shapes::refusals::Reason;
 use shapes::refusals::Refusal;
 use shapes::shapes::Shape;
 use shapes::shapes::corner_inside;
 use shapes::shapes::text_outcome;
+use shapes::tables::no_places;
 use shapes::windows::row_cells;
 
 // All rows of the columns from left on, as many as the strip is wide.
@@ -21,13 +23,6 @@ pub struct Strip {
     pub columns: usize,
     pub left: usize,
     pub width: usize,
-}
-
-// No symbol has been met.
-fn no_places() -> [u16; 256]
-    ensures { λ r. ⌜ ((s : ℕ → ℕ) → LastPlaces s 0 r) ⌝ }
-{
-    [0u16; 256]
 }
 
 // The distance from a place back to the last one, which is given as one more than it, or as 0 where there is none.
@@ -41,11 +36,12 @@ fn distance(last: u16, place: usize) -> u16
     (place + 1 - last as usize) as u16
 }
 
-// The links of one row of a strip, whose first position is base. The last places are those before the row, and afterwards those with it.
+// The links of one row of a strip, whose first position is base. The last places are those before the row, and
+// afterwards those with it.
 fn link_row(row: &[u8], base: usize, last: &mut [u16; 256], links: &mut [u16])
     requires { ⌜ Linkable base (now row) (now last) (length (now links)) ⌝ }
     ensures { λ r. ⌜
-        ((s : ℕ → ℕ) → RowAt s base (now (row .entry)) → LastPlaces s base (now (last .entry))
+        ((s : ℕ → ℕ) → RowFrom s base (now (row .entry)) → LastPlaces s base (now (last .entry))
         → LinkedRow s base (length (now (row .entry))) (now (links .entry)) (now (last .exit)) (now (links .exit))) ⌝ }
 {
     let mut j = 0;
@@ -84,7 +80,7 @@ fn strip_outcome(
     left: usize,
     room: usize,
 ) -> Outcome
-    ensures { λ r. ⌜ outcomeSaid r ≡ linksSaid (now (text .entry)) rows columns width left room ⌝ }
+    ensures { λ r. ⌜ outcomeSaid r ≡ linksSaid (now (text .entry)) (stripFrom rows columns width left) room ⌝ }
 {
     let s = Shape {
         rows,
@@ -115,8 +111,8 @@ pub fn strip_links(
     links: &mut [u16],
 ) -> Outcome
     ensures { λ r. ⌜
-        outcomeSaid r ≡ linksSaid (now (text .entry)) rows columns width left (length (now (links .entry))) ⌝ }
-    ensures { λ r. ⌜ now (links .exit) ≡ linksAfter (now (text .entry)) rows columns width left (now (links .entry)) ⌝ }
+        filled r (now (links .exit))
+        ≡ linksOf (now (text .entry)) (stripFrom rows columns width left) (now (links .entry)) ⌝ }
 {
     let outcome = strip_outcome(text, rows, columns, width, left, links.len());
     let Outcome::Accepted = outcome else {

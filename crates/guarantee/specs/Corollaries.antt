@@ -1,7 +1,8 @@
--- What follows from demand 3 for who has a listing in hand, whoever made it: no window is left out, none is passed wrongly, a found window has its renaming, the
--- two cells of a refused window lie in the pattern and are alike on one side only, the listing has the bytes that document 01 counts and reading it gives its
--- records, and any two listings for a text and a pattern have the same counts. Each needs the demand alone; that the cells lie in the pattern needs besides that
--- the pattern has a column.
+-- What follows from demand 3 for who has a listing in hand, whoever made it: no window is left out, none is passed
+-- wrongly, a found window has its renaming, the two cells of a refused window lie in the pattern and are alike on one
+-- side only, the listing has the bytes that document 01 counts and reading it gives its records, and any two listings
+-- for a text and a pattern have the same counts. Each needs the demand alone; that the cells lie in the pattern needs
+-- besides that the pattern has a column.
 -- Assumes nothing.
 use mathlib.Core.Path.{_≡_, refl, sym, _∙_, ap}
 use mathlib.Core.Bool.{Bool, not}
@@ -13,28 +14,33 @@ use native.Mathlib.Omega.{arith}
 use lib.Dec.{ltb}
 use lib.ListN.{length, length-append}
 use borrow.Author.Tests.{lt-ltb, le-ltb}
-use Rattle.theory.specs.Test.{pick, pick-true, pick-false, Tested, tested-iff, tested-same, lt-tested}
+use Rattle.theory.specs.Test.{pick, Tested}
+use Rattle.theory.specs.Test.Laws.{pick-true, pick-false, tested-iff, tested-same, lt-tested}
 use Rattle.theory.specs.Join.{joined}
-use Rattle.theory.specs.Count.{count, count-ext}
+use Rattle.theory.specs.Count.{count}
+use Rattle.theory.specs.Count.Laws.{count-ext}
 use Rattle.theory.specs.Match.{Mismatch}
-use Rattle.theory.specs.Match.Renaming.{MatchesColumns, matches-columns}
+use Rattle.theory.specs.Match.Bijections.{MatchesColumns, matches-columns}
 use Rattle.theory.specs.Bytes.{Bytes}
 use Rattle.theory.specs.Match.Answers.{no-mismatch-iff}
 use Rattle.shapes.specs.Questions.{Question, acrossOf, windowsOf}
-use Rattle.shapes.specs.Windows.{window-at, cornerRow, cornerColumn}
+use Rattle.shapes.specs.Windows.{cornerRow, cornerColumn}
+use Rattle.shapes.specs.Windows.Laws.{window-at}
 use Rattle.grid.specs.Distinct.{distinct}
 use Rattle.matching.specs.Compare.{patternOf, windowIn, positions, CornerIn, MatchesAt}
 use Rattle.listing.specs.Records.{bytesOf}
-use Rattle.listing.specs.Reader.{Reads}
-use Rattle.listing.specs.RoundTrip.{records-read}
-use Rattle.listing.specs.Entries.{bytesAll, bytes-append, pairsOf, spoiledAt, mismatchRecord, entry-found, entry-refused, length-found, length-refused, RightPairs}
-use Rattle.listing.specs.Lengths.{length-joined, length-closing}
+use Rattle.listing.specs.Reader.{readSaid, cursorSaid}
+use Rattle.listing.specs.Reader.RoundTrip.{records-read}
+use Rattle.listing.specs.Entries.{bytesAll, pairsOf, mismatchBodyAt, mismatchRecord, RightPairs}
+use Rattle.listing.specs.Entries.Laws.{bytes-append, entry-found, entry-refused, length-found, length-refused}
+use Rattle.listing.specs.Records.Lengths.{length-joined, length-closing}
 use Rattle.listing.specs.declared.records.Record.{Record}
 use Rattle.listing.specs.declared.records.Record.the-variants.{Found, Closing}
 use Rattle.listing.specs.declared.reader.Read.the-variants.{Whole}
-use Rattle.search.specs.Listing.{listingLength}
-use Rattle.guarantee.specs.Demand3.{timesFound, timesRefused, Shown, as-found, as-refused, recordsOf, Shows, Demand3}
-use Rattle.guarantee.specs.Shown.{corner-of}
+use Rattle.writer.specs.Listing.{listingLength}
+use Rattle.guarantee.specs.Demand3.{timesFound, timesRefused, Shown, as-found, as-refused, recordsOf, Shows}
+use Rattle.guarantee.specs.Demand3.{Demand3}
+use Rattle.guarantee.specs.Demand3.Standing.{corner-of}
 
 -- the two cells of a refused window: in the pattern, the earlier first, alike on one side only
 pub record Spoiling (q : Question) (row column : ℕ) (side : Bool) (earlier later : ℕ) : Type 0 where
@@ -53,7 +59,8 @@ module _ (q : Question) (listing : List ℕ) (found refused : ℕ)
   shows = demand .1
 
   -- where no window is refused, all of them are found
-  pub all-found : refused ≡ 0 → found ≡ (q .text .rows - q .pattern .rows + 1) * (q .text .columns - q .pattern .columns + 1)
+  pub all-found :
+      refused ≡ 0 → found ≡ (q .text .rows - q .pattern .rows + 1) * (q .text .columns - q .pattern .columns + 1)
   all-found none = omega (arith, shows .sum-is)
 
   module _ (row column : ℕ) (corner : CornerIn q row column) where
@@ -69,20 +76,28 @@ module _ (q : Question) (listing : List ℕ) (found refused : ℕ)
     pub found-columns : Bytes (q .text .cells) → Bytes (q .pattern .cells)
         → (timesFound records row column ≡ 1) ↔ MatchesColumns (patternOf q) (windowIn q row column) (positions q)
     found-columns text-bytes pattern-bytes =
-        let same = matches-columns (patternOf q) (windowIn q row column) (positions q) pattern-bytes window-bytes in
-        ((λ t. same .0 (shows .found-iff row column corner .0 t)), (λ c. shows .found-iff row column corner .1 (same .1 c)))
+        let same = matches-columns (patternOf q) (windowIn q row column) (positions q) pattern-bytes window-bytes in (
+          (λ t. same .0 (shows .found-iff row column corner .0 t)),
+          (λ c. shows .found-iff row column corner .1 (same .1 c)),
+        )
       where
         window-bytes : (k : ℕ) → windowIn q row column k < 256
-        window-bytes k = rw (window-at (q .text .cells) (q .text .columns) row column (q .pattern .columns) k) (text-bytes _)
+        window-bytes k =
+            rw (window-at (q .text .cells) (q .text .columns) row column (q .pattern .columns) k) (text-bytes _)
 
     -- one that stands as refused has two cells that spoil it
-    pub spoiled : 0 < q .pattern .columns → timesRefused records row column ≡ 1
-        → (side : Bool) × (i : ℕ) × (j : ℕ) × (demand .0 row column ≡ mismatchRecord side (spoiledAt row column (q .pattern .columns) i j) ∷ []) × Spoiling q row column side i j
-    spoiled some once = go (demand .0 row column) refl (shows .each-shown row column corner)
+    pub refused-cells : 0 < q .pattern .columns → timesRefused records row column ≡ 1
+        → (side : Bool) × (i : ℕ) × (j : ℕ)
+        × (demand .0 row column ≡ mismatchRecord side (mismatchBodyAt row column (q .pattern .columns) i j) ∷ [])
+        × Spoiling q row column side i j
+    refused-cells some once = go (demand .0 row column) refl (shows .each-shown row column corner)
       where
         go : (rs : List Record) → demand .0 row column ≡ rs → Shown q row column rs
-            → (side : Bool) × (i : ℕ) × (j : ℕ) × (demand .0 row column ≡ mismatchRecord side (spoiledAt row column (q .pattern .columns) i j) ∷ []) × Spoiling q row column side i j
-        go rs e (as-found symbols image right many) = absurd (shows .refused-iff row column corner .0 once (image, right .maps))
+            → (side : Bool) × (i : ℕ) × (j : ℕ)
+            × (demand .0 row column ≡ mismatchRecord side (mismatchBodyAt row column (q .pattern .columns) i j) ∷ [])
+            × Spoiling q row column side i j
+        go rs e (as-found symbols image right many) =
+            absurd (shows .refused-iff row column corner .0 once (image, right .maps))
         go rs e (as-refused side i j inside d) =
             let order = d .order in (
               side,
@@ -98,32 +113,43 @@ module _ (q : Question) (listing : List ℕ) (found refused : ℕ)
               },
             )
 
-    -- one that stands as found has its renaming: one pair for each symbol of the pattern, rising, each with the window's symbol in that symbol's cells
-    pub renamed : timesFound records row column ≡ 1
+    -- one that stands as found has its renaming: one pair for each symbol of the pattern, rising, each with the
+    -- window's symbol in that symbol's cells
+    pub found-bijection : timesFound records row column ≡ 1
         → (symbols : List ℕ) × (image : ℕ → ℕ) × (demand .0 row column ≡ Found row column ∷ pairsOf image symbols)
         × RightPairs (q .pattern .cells) (windowIn q row column) (positions q) symbols image
-    renamed once = go (demand .0 row column) refl (shows .each-shown row column corner)
+    found-bijection once = go (demand .0 row column) refl (shows .each-shown row column corner)
       where
         go : (rs : List Record) → demand .0 row column ≡ rs → Shown q row column rs
             → (symbols : List ℕ) × (image : ℕ → ℕ) × (demand .0 row column ≡ Found row column ∷ pairsOf image symbols)
             × RightPairs (q .pattern .cells) (windowIn q row column) (positions q) symbols image
         go rs e (as-found symbols image right many) = (symbols, image, e, right)
-        go rs e (as-refused side i j inside d) = absurd (no-mismatch-iff _ _ (positions q) .1 (shows .found-iff row column corner .0 once) side i j inside d)
+        go rs e (as-refused side i j inside d) =
+            absurd (no-mismatch-iff _ _ (positions q) .1 (shows .found-iff row column corner .0 once) side i j inside d)
 
     -- its records have 3 + 3d bytes, those of a refused one 7
-    length-shown : length (bytesAll (demand .0 row column)) ≡ pick (ltb 0 (timesFound records row column)) (3 + 3 * distinct (q .pattern .cells)) 7
+    length-shown : length (bytesAll (demand .0 row column))
+        ≡ pick (ltb 0 (timesFound records row column)) (3 + 3 * distinct (q .pattern .cells)) 7
     length-shown = go (demand .0 row column) (shows .each-shown row column corner)
       where
         go : (rs : List Record) → Shown q row column rs
-            → length (bytesAll rs) ≡ pick (ltb 0 (timesFound records row column)) (3 + 3 * distinct (q .pattern .cells)) 7
+            → length (bytesAll rs) ≡ pick (ltb 0 (timesFound records row column)) (3 + 3 * distinct (q .pattern .cells))
+            7
         go rs (as-found symbols image right many) =
             let once = shows .found-iff row column corner .1 (image, right .maps) in
-            ap (λ (xs : List Record). length (bytesAll xs)) (sym (entry-found row column (q .pattern .columns) symbols image)) ∙ length-found row column (q .pattern .columns) symbols image
-            ∙ ap (λ (d : ℕ). 3 + 3 * d) many ∙ sym (pick-true _ _ (lt-ltb 0 (timesFound records row column) (omega arith)))
+            ap (λ (xs : List Record). length (bytesAll xs))
+            (sym (entry-found row column (q .pattern .columns) symbols image))
+            ∙ length-found row column (q .pattern .columns) symbols image
+            ∙ ap (λ (d : ℕ). 3 + 3 * d) many
+            ∙ sym (pick-true _ _ (lt-ltb 0 (timesFound records row column) (omega arith)))
         go rs (as-refused side i j inside d) =
-            let once = shows .refused-iff row column corner .1 (λ f. no-mismatch-iff _ _ (positions q) .1 f side i j inside d) in
-            ap (λ (xs : List Record). length (bytesAll xs)) (sym (entry-refused row column (q .pattern .columns) [] (λ a. a) side i j)) ∙ length-refused row column (q .pattern .columns) [] (λ a. a) side i j
-            ∙ sym (pick-false _ _ (le-ltb 0 (timesFound records row column) (omega (arith, shows .just-once row column corner))))
+            let once = shows .refused-iff row column corner .1
+            (λ f. no-mismatch-iff _ _ (positions q) .1 f side i j inside d) in
+            ap (λ (xs : List Record). length (bytesAll xs))
+            (sym (entry-refused row column (q .pattern .columns) [] (λ a. a) side i j))
+            ∙ length-refused row column (q .pattern .columns) [] (λ a. a) side i j
+            ∙ sym (pick-false _ _ (le-ltb 0 (timesFound records row column)
+            (omega (arith, shows .just-once row column corner))))
 
   -- the listing has a × (3 + 3d) + 7b + 5 bytes
   pub listing-length : length listing ≡ listingLength found refused (distinct (q .pattern .cells))
@@ -131,7 +157,13 @@ module _ (q : Question) (listing : List ℕ) (found refused : ℕ)
   listing-length =
       ap length (shows .bytes-are) ∙ ap length (bytes-append (joined entries all) (Closing found refused ∷ []))
       ∙ length-append (bytesAll (joined entries all)) (bytesAll (Closing found refused ∷ []))
-      ∙ rw (length-closing found refused, length-joined entries standsFound (3 + 3 * distinct (q .pattern .cells)) all (λ k h. length-shown _ _ (corner-of q k h)), ← found-same, ← refused-same)
+      ∙ rw (
+        length-closing found refused,
+        length-joined entries standsFound (3 + 3 * distinct (q .pattern .cells)) all
+            (λ k h. length-shown _ _ (corner-of q k h)),
+        ← found-same,
+        ← refused-same,
+      )
     where
       entries : ℕ → List Record
       entries k = demand .0 (cornerRow (acrossOf q) k) (cornerColumn (acrossOf q) k)
@@ -156,7 +188,8 @@ module _ (q : Question) (listing : List ℕ) (found refused : ℕ)
 
   -- reading it where a record begins gives the record, and the place where the next one begins
   pub reads-records : (before after : List Record) (r : Record) → records ≡ before ++ (r ∷ after)
-      → Reads listing (length (bytesAll before)) (Whole r (record { at = length (bytesAll before) + length (bytesOf r) }))
+      → readSaid (Whole r (record { at = length (bytesAll before) + length (bytesOf r) }))
+      ≡ cursorSaid listing (length (bytesAll before))
   reads-records before after r e = rw (shows .bytes-are, e) (records-read before after r)
 
   -- a window stands as found exactly if the pattern matches it
@@ -165,7 +198,8 @@ module _ (q : Question) (listing : List ℕ) (found refused : ℕ)
       (ltb 0 (timesFound records (cornerRow (acrossOf q) k) (cornerColumn (acrossOf q) k)))
   found-tested k h =
       let c = corner-of q k h in
-      tested-iff (passed-rightly _ _ c) (λ f. omega (arith, shows .found-iff _ _ c .1 f)) (lt-tested 0 (timesFound records (cornerRow (acrossOf q) k) (cornerColumn (acrossOf q) k)))
+      tested-iff (passed-rightly _ _ c) (λ f. omega (arith, shows .found-iff _ _ c .1 f))
+      (lt-tested 0 (timesFound records (cornerRow (acrossOf q) k) (cornerColumn (acrossOf q) k)))
 
 -- two listings for one text and one pattern, whoever made them, have the same counts
 pub same-counts : (q : Question) (listing other : List ℕ) (found refused found′ refused′ : ℕ)

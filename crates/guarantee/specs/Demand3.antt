@@ -1,26 +1,39 @@
--- Demand 3 as one definition: what holds of a text, a pattern, a listing, found and refused, whoever made the listing. Its sentences are those of the demand
--- and of the last paragraph of document 01's 'Reading and checking'. That it holds of every listing that the check passes or the search writes is in
--- `Theorems`. A one-to-one renaming is there a one-to-one mapping of the pattern's symbols (document 004's definition); that it is the same as document 01's
--- renaming, two columns that agree, is theory's `matches-columns`; `Corollaries` says it of a listing.
+-- Demand 3: what holds of a text, a pattern, a listing, found and refused, whoever made the listing (`Demand3`); and
+-- the demand itself, that it holds of every listing that the check passes (`OfTheCheck`) or the search writes, where
+-- besides each window's records list its one-window answer (`OfTheSearch`). Its sentences are those of the demand and
+-- of the last paragraph of document 01's 'Reading and checking'. That they hold is `demand-3` of `Theorems`. A
+-- one-to-one renaming is there a one-to-one mapping of the pattern's symbols (document 004's definition); that it is
+-- the same as document 01's renaming, two columns that agree, is theory's `matches-columns`; `Corollaries` says it of a
+-- listing.
 -- Assumes nothing.
+pub mod Standing
+pub mod Times
 use mathlib.Core.Path.{_≡_}
-use mathlib.Core.Bool.{Bool, false}
 use mathlib.Core.List.{List, [], _∷_, _++_}
+use Prim.Native.Nat.{ℕ, _+_, _*_, _<_, _-_}
+use lib.ListN.{take, length}
+use Rattle.theory.specs.Bytes.{Bytes}
+use Rattle.theory.specs.Match.{Mismatch}
 use mathlib.Core.Logic.{_↔_}
-use Prim.Native.Nat.{ℕ, _+_, _-_, _*_, _<_}
+use Rattle.shapes.specs.Questions.{Question, acrossOf, windowsOf}
+use Rattle.sets.specs.Symbols.{symbolsOf}
+use Rattle.matching.specs.Compare.{patternOf, windowIn, positions, CornerIn, told, oneWindowOf, MatchesAt}
+use Rattle.matching.specs.declared.compare.WindowAnswer.{WindowAnswer}
+use Rattle.listing.specs.declared.records.Record.{Record}
+use Rattle.writer.specs.Listing.{verdictRecords}
+use Rattle.search.specs.Search.{Lent, done, searchOf}
+use Rattle.search.specs.declared.search.Searched.the-variants.{Listed}
+use Rattle.verify.specs.Check.{checkedSaid, checkOf}
+use Rattle.verify.specs.declared.check.Checked.the-variants.{Kept}
+use mathlib.Core.Bool.{Bool, false}
 use lib.Dec.{eqb, ltb}
-use lib.ListN.{length}
 use Rattle.theory.specs.Test.{pick, both}
 use Rattle.theory.specs.Join.{joined}
 use Rattle.theory.specs.Count.{count}
-use Rattle.theory.specs.Match.{Mismatch}
-use Rattle.shapes.specs.Questions.{Question, acrossOf, windowsOf}
 use Rattle.shapes.specs.Windows.{cornerRow, cornerColumn}
 use Rattle.grid.specs.Distinct.{distinct}
-use Rattle.matching.specs.Compare.{patternOf, windowIn, positions, CornerIn, MatchesAt}
-use Rattle.listing.specs.Entries.{bytesAll, pairsOf, spoiledAt, mismatchRecord, RightPairs}
-use Rattle.listing.specs.declared.records.Spoiled.{Spoiled}
-use Rattle.listing.specs.declared.records.Record.{Record}
+use Rattle.listing.specs.Entries.{bytesAll, pairsOf, mismatchBodyAt, mismatchRecord, RightPairs}
+use Rattle.listing.specs.declared.records.MismatchBody.{MismatchBody}
 use Rattle.listing.specs.declared.records.Record.the-variants.{Found, Pair, AlikeInPattern, AlikeInWindow, Closing}
 
 -- ---- how a window stands in records
@@ -34,7 +47,7 @@ namesFound row column (AlikeInWindow body) = false
 namesFound row column (Closing a b) = false
 
 -- a body of a mismatch names it
-abbrev pub namesWindow : ℕ → ℕ → Spoiled → Bool
+abbrev pub namesWindow : ℕ → ℕ → MismatchBody → Bool
 namesWindow row column body = both (eqb (body .window .row) row) (eqb (body .window .column) column)
 
 -- a kind 3 or 4 names it
@@ -60,27 +73,34 @@ timesRefused records row column = howMany (namesRefused row column) records
 
 -- ---- the records of one window
 
--- a kind 1 and its d pairs, which are its renaming: one for each symbol of the pattern, rising, carrying the pattern onto the window, one-to-one; or one
--- kind 3 or 4, with two cells, the earlier first, alike on one side only as the kind says
+-- a kind 1 and its d pairs, which are its renaming: one for each symbol of the pattern, rising, carrying the pattern
+-- onto the window, one-to-one; or one kind 3 or 4, with two cells, the earlier first, alike on one side only as the
+-- kind says
 pub data Shown (q : Question) (row column : ℕ) : List Record → Type 0 where
-  as-found : (symbols : List ℕ) (image : ℕ → ℕ) → RightPairs (q .pattern .cells) (windowIn q row column) (positions q) symbols image
+  as-found : (symbols : List ℕ) (image : ℕ → ℕ)
+      → RightPairs (q .pattern .cells) (windowIn q row column) (positions q) symbols image
       → length symbols ≡ distinct (q .pattern .cells) → Shown q row column (Found row column ∷ pairsOf image symbols)
-  as-refused : (side : Bool) (earlier later : ℕ) → later < positions q → Mismatch side (patternOf q) (windowIn q row column) earlier later
-      → Shown q row column (mismatchRecord side (spoiledAt row column (q .pattern .columns) earlier later) ∷ [])
+  as-refused : (side : Bool) (earlier later : ℕ) → later < positions q
+      → Mismatch side (patternOf q) (windowIn q row column) earlier later
+      → Shown q row column (mismatchRecord side (mismatchBodyAt row column (q .pattern .columns) earlier later) ∷ [])
 
 -- ---- the demand
 
 -- the records in their order: for each window, row by row, its own; then kind 5, and there the listing ends
 unfoldable pub recordsOf : Question → (ℕ → ℕ → List Record) → ℕ → ℕ → List Record
 recordsOf q entry found refused =
-    joined (λ k. entry (cornerRow (acrossOf q) k) (cornerColumn (acrossOf q) k)) (windowsOf q) ++ (Closing found refused ∷ [])
+    joined (λ k. entry (cornerRow (acrossOf q) k) (cornerColumn (acrossOf q) k)) (windowsOf q)
+    ++ (Closing found refused ∷ [])
 
--- how many windows stand there as found, and how many as refused
+-- how many windows stand there as found
 abbrev pub windowsFound : Question → List Record → ℕ
-windowsFound q records = count (λ k. ltb 0 (timesFound records (cornerRow (acrossOf q) k) (cornerColumn (acrossOf q) k))) (windowsOf q)
+windowsFound q records =
+    count (λ k. ltb 0 (timesFound records (cornerRow (acrossOf q) k) (cornerColumn (acrossOf q) k))) (windowsOf q)
 
+-- and how many as refused
 abbrev pub windowsRefused : Question → List Record → ℕ
-windowsRefused q records = count (λ k. ltb 0 (timesRefused records (cornerRow (acrossOf q) k) (cornerColumn (acrossOf q) k))) (windowsOf q)
+windowsRefused q records =
+    count (λ k. ltb 0 (timesRefused records (cornerRow (acrossOf q) k) (cornerColumn (acrossOf q) k))) (windowsOf q)
 
 -- where `entry` gives the records of the window at (row, column)
 pub record Shows (q : Question) (listing : List ℕ) (found refused : ℕ) (entry : ℕ → ℕ → List Record) : Type 0 where
@@ -90,7 +110,8 @@ pub record Shows (q : Question) (listing : List ℕ) (found refused : ℕ) (entr
   pub each-shown : (row column : ℕ) → CornerIn q row column → Shown q row column (entry row column)
   -- every window stands there just once, as found or as refused
   pub just-once : (row column : ℕ) → CornerIn q row column
-      → timesFound (recordsOf q entry found refused) row column + timesRefused (recordsOf q entry found refused) row column ≡ 1
+      → timesFound (recordsOf q entry found refused) row column + timesRefused (recordsOf q entry found refused) row
+      column ≡ 1
   -- as refused exactly when no one-to-one mapping of symbols carries the pattern onto it
   pub refused-iff : (row column : ℕ) → CornerIn q row column
       → (timesRefused (recordsOf q entry found refused) row column ≡ 1) ↔ (MatchesAt q row column → ⊥)
@@ -106,3 +127,24 @@ pub record Shows (q : Question) (listing : List ℕ) (found refused : ℕ) (entr
 -- demand 3, of a text and a pattern, a listing, found and refused
 abbrev pub Demand3 : Question → List ℕ → ℕ → ℕ → Type 0
 Demand3 q listing found refused = (entry : ℕ → ℕ → List Record) × Shows q listing found refused entry
+
+-- ---- of every listing that our check passes or our search writes (`demand-3` of `Theorems`)
+
+-- of every listing that the check accepts
+abbrev pub OfTheCheck : Type 0
+OfTheCheck =
+    (q : Question) (listing : List ℕ) (found refused : ℕ)
+    → checkedSaid (Kept found refused) ≡ checkOf q listing
+    → Bytes (q .pattern .cells) × Bytes listing
+    → Demand3 q listing found refused
+
+-- of every listing that the search writes: as many first bytes of the listing buffer after it as the returned length
+-- says. There besides each window's records list its one-window answer.
+abbrev pub OfTheSearch : Type 0
+OfTheSearch =
+    (q : Question) (l after : Lent) (found refused size : ℕ)
+    → done (Listed found refused size) after ≡ searchOf q l → Bytes (q .pattern .cells)
+    → (entry : ℕ → ℕ → List Record) × Shows q (take size (after .listing)) found refused entry
+    × ((row column : ℕ) → CornerIn q row column → (a : WindowAnswer) → told a ≡ oneWindowOf q row column
+    → entry row column ≡ verdictRecords row column (q .pattern .columns) (symbolsOf (q .pattern .cells))
+    (a .bijection .forward) (a .verdict))

@@ -1,7 +1,7 @@
--- DEMAND 3, one theorem over search and check (`demand-3`). It needs nothing but what the two operations ensure: each of its premises is an `ensures` of
--- `search` or of `check`.
--- Why it holds: what the check accepts keeps the rules, what the search writes keeps them too (`search-keeps`), and a listing that keeps the rules is as the
--- demand says (`keeps-shows`).
+-- DEMAND 3, one theorem over search and check (`demand-3`). It needs nothing but what the two operations ensure: each
+-- of its premises is an `ensures` of `search` or of `check`. Why it holds: what the check accepts keeps the rules, what
+-- the search writes keeps them too (`search-keeps`), and a listing that keeps the rules is as the demand says
+-- (`keeps-shows`).
 -- Assumes nothing.
 use mathlib.Core.Path.{_≡_, refl, _∙_}
 use mathlib.Core.List.{List}
@@ -13,28 +13,28 @@ use Rattle.theory.specs.Match.{Answer, matched, mismatched, answerOf, imageOf}
 use Rattle.theory.specs.Match.Even.{maps-even, even-maps}
 use Rattle.theory.specs.Match.Answers.{match-iff, mismatch-iff}
 use mathlib.Core.Logic.{_↔_}
-use Rattle.theory.specs.Match.Renaming.{MatchesColumns}
+use Rattle.theory.specs.Match.Bijections.{MatchesColumns}
 use Rattle.shapes.specs.Questions.{Question, Posed, acrossOf}
 use Rattle.sets.specs.Symbols.{symbolsOf}
-use Rattle.shapes.specs.Windows.{corner-row, corner-column}
+use Rattle.shapes.specs.Windows.Laws.{corner-row, corner-column}
 use Rattle.matching.specs.Compare.{patternOf, windowIn, positions, CornerIn, told, oneWindowOf}
 use Rattle.matching.specs.declared.compare.WindowAnswer.{WindowAnswer}
-use Rattle.listing.specs.declared.records.Record.{Record}
 use Rattle.matching.specs.Questions.{answerAt}
-use Rattle.search.specs.Listing.{imageAt, entryOfWindow, foundIn, refusedIn, searchRecords, searchListing}
+use Rattle.writer.specs.Listing.{imageAt, entryOfWindow, foundIn, refusedIn, searchRecords, searchListing}
+use Rattle.writer.specs.Listing.{verdictRecords}
 use Rattle.search.specs.Search.{Lent, done, searchOf}
 use Rattle.search.specs.Search.Accepted.{Lists}
 use Rattle.search.specs.Search.Outcome.{listed, listed-bytes}
-use Rattle.search.specs.Theorems.{verdictRecords, lists-answer}
+use Rattle.search.specs.Theorems.{lists-answer}
 use Rattle.search.specs.declared.search.Searched.the-variants.{Listed}
 use Rattle.verify.specs.Check.{checkedSaid, checkOf}
 use Rattle.verify.specs.Rules.{TrueOf, Entries, recordsTo, Keeps}
 use Rattle.verify.specs.Theorems.{accepts-all, accepts-only}
 use Rattle.verify.specs.declared.check.Checked.{Checked}
 use Rattle.verify.specs.declared.check.Checked.the-variants.{Kept}
-use Rattle.guarantee.specs.Demand3.{timesFound, recordsOf, Shows, Demand3}
+use Rattle.guarantee.specs.Demand3.{timesFound, recordsOf, OfTheCheck, OfTheSearch}
 use Rattle.guarantee.specs.Corollaries.{found-columns}
-use Rattle.guarantee.specs.Shown.{entryShown, keeps-shows}
+use Rattle.guarantee.specs.Demand3.Standing.{entryShown, keeps-shows}
 
 -- ---- what the search writes keeps the rules
 
@@ -64,7 +64,8 @@ module _ (q : Question) where
 
   -- ---- an accepted search
 
-  module _ (l after : Lent) (found refused size : ℕ) (bytes : Bytes (q .pattern .cells)) (searches : done (Listed found refused size) after ≡ searchOf q l) where
+  module _ (l after : Lent) (found refused size : ℕ) (bytes : Bytes (q .pattern .cells))
+      (searches : done (Listed found refused size) after ≡ searchOf q l) where
     accepted : Lists q l found refused size
     accepted = listed q l after (Listed found refused size) found refused size refl searches
 
@@ -80,9 +81,11 @@ module _ (q : Question) where
     searched-keeps = rw (listing-same, accepted .found-is, accepted .refused-is) (search-keeps is-posed)
 
     -- each window's records list its one-window answer
-    pub searched-answers : (row column : ℕ) → CornerIn q row column → (a : WindowAnswer) → told a ≡ oneWindowOf q row column
+    pub searched-answers : (row column : ℕ) → CornerIn q row column → (a : WindowAnswer)
+        → told a ≡ oneWindowOf q row column
         → entryShown q (take size (after .listing)) found refused searchEntries searched-keeps bytes row column
-        ≡ verdictRecords row column (q .pattern .columns) (symbolsOf (q .pattern .cells)) (a .bijection .forward) (a .verdict)
+        ≡ verdictRecords row column (q .pattern .columns) (symbolsOf (q .pattern .cells)) (a .bijection .forward)
+        (a .verdict)
     unfolding entryShown searchEntries entryOfWindow
     searched-answers row column c a answers =
         let inside : column < acrossOf q = omega (arith, c .column-le) in
@@ -97,33 +100,19 @@ module _ (q : Question) where
 
 -- ---- demand 3
 
--- of every listing that the check accepts
-abbrev pub OfTheCheck : Type 0
-OfTheCheck =
-    (q : Question) (listing : List ℕ) (found refused : ℕ)
-    → checkedSaid (Kept found refused) ≡ checkOf q listing → Bytes (q .text .cells) × Bytes (q .pattern .cells) × Bytes listing
-    → Demand3 q listing found refused
-
--- of every listing that the search writes: as many first bytes of the listing buffer after it as the returned length says. There besides each window's
--- records list its one-window answer.
-abbrev pub OfTheSearch : Type 0
-OfTheSearch =
-    (q : Question) (l after : Lent) (found refused size : ℕ)
-    → done (Listed found refused size) after ≡ searchOf q l → Bytes (q .text .cells) × Bytes (q .pattern .cells)
-    → (entry : ℕ → ℕ → List Record) × Shows q (take size (after .listing)) found refused entry
-    × ((row column : ℕ) → CornerIn q row column → (a : WindowAnswer) → told a ≡ oneWindowOf q row column
-    → entry row column ≡ verdictRecords row column (q .pattern .columns) (symbolsOf (q .pattern .cells)) (a .bijection .forward) (a .verdict))
-
 pub demand-3 : OfTheCheck × OfTheSearch
 demand-3 = (checked, searched)
   where
     checked : OfTheCheck
-    checked q listing found refused checks (text-bytes, pattern-bytes, listing-bytes) =
-        let k = accepts-only q listing (Kept found refused) checks pattern-bytes listing-bytes found refused refl in
-        (entryShown q listing found refused (k .0) (k .1) pattern-bytes, keeps-shows q listing found refused (k .0) (k .1) pattern-bytes)
+    checked q listing found refused checks (pattern-bytes, listing-bytes) =
+        let k = accepts-only q listing (Kept found refused) checks pattern-bytes listing-bytes found refused refl in (
+          entryShown q listing found refused (k .0) (k .1) pattern-bytes,
+          keeps-shows q listing found refused (k .0)
+              (k .1) pattern-bytes,
+        )
 
     searched : OfTheSearch
-    searched q l after found refused size searches (text-bytes, pattern-bytes) =
+    searched q l after found refused size searches pattern-bytes =
         let k = searched-keeps q l after found refused size pattern-bytes searches in (
           entryShown q (take size (after .listing)) found refused (searchEntries q) k pattern-bytes,
           keeps-shows q (take size (after .listing)) found refused (searchEntries q) k pattern-bytes,
@@ -132,25 +121,31 @@ demand-3 = (checked, searched)
 
 -- what the search writes, the check accepts, with the same counts
 pub search-then-check : (q : Question) (l after : Lent) (found refused size : ℕ)
-    → done (Listed found refused size) after ≡ searchOf q l → Bytes (q .text .cells) × Bytes (q .pattern .cells)
+    → done (Listed found refused size) after ≡ searchOf q l → Bytes (q .pattern .cells)
     → (r : Checked) → checkedSaid r ≡ checkOf q (take size (after .listing)) → r ≡ Kept found refused
 search-then-check q l after found refused size searches bytes r checks =
-    accepts-all q (take size (after .listing)) r checks (bytes .1) found refused (searchEntries q, searched-keeps q l after found refused size (bytes .1) searches)
+    accepts-all q (take size (after .listing)) r checks bytes found refused
+    (searchEntries q, searched-keeps q l after found refused size bytes searches)
 
--- document 01's renaming, from what the operations ensure alone: a window stands as found exactly if two columns that agree carry the pattern onto it
+-- document 01's renaming, from what the operations ensure alone: a window stands as found exactly if two columns that
+-- agree carry the pattern onto it
 pub checked-columns : (q : Question) (listing : List ℕ) (found refused : ℕ)
-    (checks : checkedSaid (Kept found refused) ≡ checkOf q listing) (bytes : Bytes (q .text .cells) × Bytes (q .pattern .cells) × Bytes listing)
+    (checks : checkedSaid (Kept found refused) ≡ checkOf q listing)
+    (bytes : Bytes (q .text .cells) × Bytes (q .pattern .cells) × Bytes listing)
     (row column : ℕ) → CornerIn q row column
-    → (timesFound (recordsOf q (demand-3 .0 q listing found refused checks bytes .0) found refused) row column ≡ 1)
+    → (timesFound (recordsOf q (demand-3 .0 q listing found refused checks (bytes .1, bytes .2) .0) found refused) row column ≡ 1)
     ↔ MatchesColumns (patternOf q) (windowIn q row column) (positions q)
 checked-columns q listing found refused checks bytes row column c =
-    found-columns q listing found refused (demand-3 .0 q listing found refused checks bytes) row column c (bytes .0) (bytes .1)
+    found-columns q listing found refused (demand-3 .0 q listing found refused checks (bytes .1, bytes .2)) row column c (bytes .0)
+    (bytes .1)
 
 pub searched-columns : (q : Question) (l after : Lent) (found refused size : ℕ)
-    (searches : done (Listed found refused size) after ≡ searchOf q l) (bytes : Bytes (q .text .cells) × Bytes (q .pattern .cells))
+    (searches : done (Listed found refused size) after ≡ searchOf q l)
+    (bytes : Bytes (q .text .cells) × Bytes (q .pattern .cells))
     (row column : ℕ) → CornerIn q row column
-    → (timesFound (recordsOf q (demand-3 .1 q l after found refused size searches bytes .0) found refused) row column ≡ 1)
+    → (timesFound (recordsOf q (demand-3 .1 q l after found refused size searches (bytes .1) .0) found refused) row column
+    ≡ 1)
     ↔ MatchesColumns (patternOf q) (windowIn q row column) (positions q)
 searched-columns q l after found refused size searches bytes row column c =
-    let d = demand-3 .1 q l after found refused size searches bytes in
+    let d = demand-3 .1 q l after found refused size searches (bytes .1) in
     found-columns q (take size (after .listing)) found refused (d .0, d .1) row column c (bytes .0) (bytes .1)

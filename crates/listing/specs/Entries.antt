@@ -1,21 +1,19 @@
--- What stands in a listing for one window, as records and as bytes: the records of an answer, be it the search's own or another that is true.
+-- What stands in a listing for one window, as records and as bytes: the records of an answer, be it the search's own or
+-- another that is true.
 -- Assumes nothing.
-use mathlib.Core.Path.{_≡_, refl, sym, _∙_, ap}
+pub mod Laws
+pub mod Put
+use mathlib.Core.Path.{_≡_}
 use mathlib.Core.Bool.{Bool, true, false}
-use mathlib.Core.List.{List, [], _∷_, _++_, append-nil, append-assoc}
+use mathlib.Core.List.{List, [], _∷_, _++_}
 use mathlib.Core.Logic.{_↔_}
-use Prim.Native.Nat.{ℕ, suc, _+_, _*_, _/_, _%_, _<_}
-use native.Mathlib.Omega.{arith}
+use Prim.Native.Nat.{ℕ, _/_, _%_, _<_}
 use lib.ListN.{length, getD}
-use Rattle.theory.specs.Test.{is-true, says-true}
-use Rattle.theory.specs.Count.{Entry, Rising, members-iff, members-rising}
+use Rattle.theory.specs.Count.{Entry, Rising}
 use Rattle.theory.specs.Match.{Maps, Answer, matched, mismatched}
-use Rattle.sets.specs.Symbols.{symbolsOf}
-use Rattle.grid.specs.Distinct.{contains}
-use Rattle.grid.specs.Distinct.Sets.{contains-tested}
 use Rattle.listing.specs.Records.{bytesOf}
 use Rattle.listing.specs.declared.records.Place.{Place}
-use Rattle.listing.specs.declared.records.Spoiled.{Spoiled}
+use Rattle.listing.specs.declared.records.MismatchBody.{MismatchBody}
 use Rattle.listing.specs.declared.records.Record.{Record}
 use Rattle.listing.specs.declared.records.Record.the-variants.{Found, Pair, AlikeInPattern, AlikeInWindow}
 
@@ -34,106 +32,25 @@ abbrev pub cellAt : ℕ → ℕ → Place
 cellAt width p = record { row = p / width; column = p % width }
 
 -- the window at (row, column) and the cells at two positions of a pattern of that width
-abbrev pub spoiledAt : ℕ → ℕ → ℕ → ℕ → ℕ → Spoiled
-spoiledAt row column width q p = record { window = record { row = row; column = column }; earlier = cellAt width q; later = cellAt width p }
+abbrev pub mismatchBodyAt : ℕ → ℕ → ℕ → ℕ → ℕ → MismatchBody
+mismatchBodyAt row column width q p =
+    record { window = record { row = row; column = column }; earlier = cellAt width q; later = cellAt width p }
 
 -- kind 3 where the two cells are alike in the pattern only, kind 4 where alike in the window only
-abbrev pub mismatchRecord : Bool → Spoiled → Record
+abbrev pub mismatchRecord : Bool → MismatchBody → Record
 mismatchRecord true body = AlikeInPattern body
 mismatchRecord false body = AlikeInWindow body
 
--- the records of the window at (row, column) with that answer: found, and a pair for each of the pattern's symbols; or the mismatch
+-- the records of the window at (row, column) with that answer: found, and a pair for each of the pattern's symbols; or
+-- the mismatch
 unfoldable pub entryOf : ℕ → ℕ → ℕ → List ℕ → (ℕ → ℕ) → Answer → List Record
 entryOf row column width symbols image matched = Found row column ∷ pairsOf image symbols
-entryOf row column width symbols image (mismatched side q p) = mismatchRecord side (spoiledAt row column width q p) ∷ []
+entryOf row column width symbols image (mismatched side q p) =
+    mismatchRecord side (mismatchBodyAt row column width q p) ∷ []
 
--- a found window's pairs are right: one for each symbol of the pattern, rising, and their images carry the pattern onto the window w, one-to-one
+-- a found window's pairs are right: one for each symbol of the pattern, rising, and their images carry the pattern onto
+-- the window w, one-to-one
 pub record RightPairs (pattern : List ℕ) (w : ℕ → ℕ) (n : ℕ) (symbols : List ℕ) (image : ℕ → ℕ) : Type 0 where
   pub rising : Rising symbols
   pub just : (a : ℕ) → Entry symbols a ↔ ((p : ℕ) × (p < length pattern) × (getD pattern p 0 ≡ a))
   pub maps : Maps (λ p. getD pattern p 0) w n image
-
--- ---- bytes of records
-
-pub bytes-none : bytesAll [] ≡ []
-unfolding bytesAll
-bytes-none = refl
-
-pub bytes-cons : (r : Record) (rs : List Record) → bytesAll (r ∷ rs) ≡ bytesOf r ++ bytesAll rs
-unfolding bytesAll
-bytes-cons r rs = refl
-
-pub bytes-one : (r : Record) → bytesAll (r ∷ []) ≡ bytesOf r
-unfolding bytesAll
-bytes-one r = append-nil (bytesOf r)
-
-pub bytes-append : (xs ys : List Record) → bytesAll (xs ++ ys) ≡ bytesAll xs ++ bytesAll ys
-unfolding bytesAll
-bytes-append [] ys = refl
-bytes-append (x ∷ xs) ys = ap (λ (r : List ℕ). bytesOf x ++ r) (bytes-append xs ys) ∙ sym (append-assoc (bytesOf x) (bytesAll xs) (bytesAll ys))
-
--- ---- pairs
-
-pub pairs-none : (image : ℕ → ℕ) → pairsOf image [] ≡ []
-unfolding pairsOf
-pairs-none image = refl
-
-pub pairs-cons : (image : ℕ → ℕ) (a : ℕ) (xs : List ℕ) → pairsOf image (a ∷ xs) ≡ Pair a (image a) ∷ pairsOf image xs
-unfolding pairsOf
-pairs-cons image a xs = refl
-
--- a pair has three bytes
-pub length-pairs : (image : ℕ → ℕ) (xs : List ℕ) → length (bytesAll (pairsOf image xs)) ≡ 3 * length xs
-unfolding pairsOf bytesAll
-length-pairs image [] = refl
-length-pairs image (a ∷ xs) = omega (arith, length-pairs image xs)
-
--- equal images of the symbols listed
-pub pairs-ext : (f g : ℕ → ℕ) (xs : List ℕ) → ((i : ℕ) → i < length xs → f (getD xs i 0) ≡ g (getD xs i 0)) → pairsOf f xs ≡ pairsOf g xs
-unfolding pairsOf
-pairs-ext f g [] h = refl
-pairs-ext f g (a ∷ xs) h =
-    ap (λ (x : ℕ). Pair a x ∷ pairsOf f xs) (h 0 (omega arith))
-    ∙ ap (λ (rs : List Record). Pair a (g a) ∷ rs) (pairs-ext f g xs (λ i l. h (suc i) (omega arith)))
-
--- ---- right pairs
-
--- the symbols of a pattern are just those that stand in it
-symbols-just : (pattern : List ℕ) → ((k : ℕ) → getD pattern k 0 < 256) → (a : ℕ) → Entry (symbolsOf pattern) a ↔ ((p : ℕ) × (p < length pattern) × (getD pattern p 0 ≡ a))
-symbols-just pattern bytes a = (
-  (λ e. says-true (contains-tested pattern a) (members-iff (contains pattern) 256 a .0 e .1)),
-  (λ e. members-iff (contains pattern) 256 a .1 (rw (← (e .2)) (bytes (e .0)), is-true (contains-tested pattern a) e)),
-)
-
--- so a mapping that carries the pattern onto a window makes right pairs with them
-pub right-pairs : (pattern : List ℕ) (w : ℕ → ℕ) (n : ℕ) (image : ℕ → ℕ) → ((k : ℕ) → getD pattern k 0 < 256) → Maps (λ p. getD pattern p 0) w n image
-    → RightPairs pattern w n (symbolsOf pattern) image
-right-pairs pattern w n image bytes maps = record { rising = members-rising (contains pattern) 256; just = symbols-just pattern bytes; maps = maps }
-
--- ---- entries
-
--- the kind by the side alike
-pub kind-alike : (alike : Bool) (body : Spoiled) → alike ≡ true → AlikeInPattern body ≡ mismatchRecord alike body
-kind-alike alike body e = rw e
-
-pub kind-unlike : (alike : Bool) (body : Spoiled) → alike ≡ false → AlikeInWindow body ≡ mismatchRecord alike body
-kind-unlike alike body e = rw e
-
-module _ (row column width : ℕ) (symbols : List ℕ) (image : ℕ → ℕ) where
-  pub entry-found : entryOf row column width symbols image matched ≡ Found row column ∷ pairsOf image symbols
-  unfolding entryOf
-  entry-found = refl
-
-  pub entry-refused : (side : Bool) (q p : ℕ) → entryOf row column width symbols image (mismatched side q p) ≡ mismatchRecord side (spoiledAt row column width q p) ∷ []
-  unfolding entryOf
-  entry-refused side q p = refl
-
-  -- a found window has 3 + 3d bytes, a refused one 7
-  pub length-found : length (bytesAll (entryOf row column width symbols image matched)) ≡ 3 + 3 * length symbols
-  unfolding entryOf bytesAll
-  length-found = omega (arith, length-pairs image symbols)
-
-  pub length-refused : (side : Bool) (q p : ℕ) → length (bytesAll (entryOf row column width symbols image (mismatched side q p))) ≡ 7
-  unfolding entryOf bytesAll
-  length-refused true q p = refl
-  length-refused false q p = refl

@@ -1,5 +1,8 @@
 -- Document 01's reader: a record with the cursor after it, or 6 for an unknown kind or a cut record, or 15.
 -- Assumes nothing.
+pub mod Reading
+pub mod Answers
+pub mod RoundTrip
 use mathlib.Core.Path.{_≡_}
 use mathlib.Core.Bool.{Bool}
 use mathlib.Core.List.{List, [], _∷_}
@@ -12,7 +15,8 @@ use Rattle.listing.specs.Records.{bytesOf, kindSize}
 use Rattle.listing.specs.declared.reader.Read.{Read}
 use Rattle.listing.specs.declared.reader.Read.the-variants.{Whole, Refused}
 
--- document 01's number and values of an answer: the place after the record and the record's bytes; of a refusal its number and the cursor's place
+-- document 01's number and values of an answer: the place after the record and the record's bytes; of a refusal its
+-- number and the cursor's place
 abbrev pub readSaid : Read → Said
 readSaid (Whole r next) = accepts (next .at ∷ bytesOf r)
 readSaid (Refused why) = refusalSaid why
@@ -32,18 +36,16 @@ wholeValues listing at = (at + sizeAt listing at) ∷ take (sizeAt listing at) (
 -- 15 at or past the end, then 6, both with the place; else the record
 unfoldable pub cursorSaid : List ℕ → ℕ → Said
 cursorSaid listing at =
-    checkWith (ltb at (length listing)) 15 (at ∷ []) then checkWith (wholeAt listing at) 6 (at ∷ []) then accepts (wholeValues listing at)
-
--- what reading at a place answers
-pub record Reads (listing : List ℕ) (at : ℕ) (r : Read) : Type 0 where
-  pub said-is : readSaid r ≡ cursorSaid listing at
+    checkWith (ltb at (length listing)) 15 (at ∷ []) then checkWith (wholeAt listing at) 6 (at ∷ []) then accepts
+    (wholeValues listing at)
 
 -- What the inner functions' contracts cite: a byte of that kind stands at the place.
 pub record KindAt (listing : List ℕ) (at kind : ℕ) : Type 0 where
   pub inside : at < length listing
   pub kind-is : getD listing at 0 ≡ kind
 
--- the n bytes that stand k places behind `at`, and on. On a size that is written out it computes to the loads themselves.
+-- the n bytes that stand k places behind `at`, and on. On a size that is written out it computes to the loads
+-- themselves.
 abbrev pub bytesFrom : List ℕ → ℕ → ℕ → ℕ → List ℕ
 bytesFrom listing at k zero = []
 bytesFrom listing at k (suc n) = getD listing (at + k) 0 ∷ bytesFrom listing at (suc k) n

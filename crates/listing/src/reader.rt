@@ -1,12 +1,12 @@
 // The reader of a listing: a cursor by value, and a whole record with the cursor after it.
 ghost use mathlib.Core.Path.{_≡_};
 ghost use Prim.Native.Nat.{_+_, _*_, _≤_};
-ghost use Rattle.listing.specs.Reader.{KindAt, Reads, bytesFrom};
-ghost use Rattle.listing.specs.Records.{spoiledBytes};
+ghost use Rattle.listing.specs.Reader.{readSaid, cursorSaid, KindAt, bytesFrom};
+ghost use Rattle.listing.specs.Records.{mismatchBytes};
 ghost use lib.ListN.{length};
+use crate::records::MismatchBody;
 use crate::records::Place;
 use crate::records::Record;
-use crate::records::Spoiled;
 use shapes::refusals::Refusal;
 
 // A place in a listing.
@@ -23,7 +23,7 @@ pub enum Read {
 // A found record at a place of kind 1.
 fn read_found(listing: &[u8], at: usize) -> Read
     requires { ⌜ KindAt (now listing) at 1 ⌝ }
-    ensures { λ r. ⌜ Reads (now (listing .entry)) at r ⌝ }
+    ensures { λ r. ⌜ readSaid r ≡ cursorSaid (now (listing .entry)) at ⌝ }
 {
     if listing.len() - at < 3 {
         return Read::Refused(Refusal::ListingForm(at));
@@ -40,7 +40,7 @@ fn read_found(listing: &[u8], at: usize) -> Read
 // A pair at a place of kind 2.
 fn read_pair(listing: &[u8], at: usize) -> Read
     requires { ⌜ KindAt (now listing) at 2 ⌝ }
-    ensures { λ r. ⌜ Reads (now (listing .entry)) at r ⌝ }
+    ensures { λ r. ⌜ readSaid r ≡ cursorSaid (now (listing .entry)) at ⌝ }
 {
     if listing.len() - at < 3 {
         return Read::Refused(Refusal::ListingForm(at));
@@ -55,11 +55,11 @@ fn read_pair(listing: &[u8], at: usize) -> Read
 }
 
 // The body of a mismatch, of either kind.
-fn spoiled_at(listing: &[u8], at: usize) -> Spoiled
+fn mismatch_body(listing: &[u8], at: usize) -> MismatchBody
     requires { ⌜ at + 7 ≤ length (now listing) ⌝ }
-    ensures { λ r. ⌜ spoiledBytes r ≡ bytesFrom (now (listing .entry)) at 1 6 ⌝ }
+    ensures { λ r. ⌜ mismatchBytes r ≡ bytesFrom (now (listing .entry)) at 1 6 ⌝ }
 {
-    Spoiled {
+    MismatchBody {
         window: Place {
             row: listing[at + 1],
             column: listing[at + 2],
@@ -78,24 +78,24 @@ fn spoiled_at(listing: &[u8], at: usize) -> Spoiled
 // A mismatch at a place of kind 3.
 fn read_alike_in_pattern(listing: &[u8], at: usize) -> Read
     requires { ⌜ KindAt (now listing) at 3 ⌝ }
-    ensures { λ r. ⌜ Reads (now (listing .entry)) at r ⌝ }
+    ensures { λ r. ⌜ readSaid r ≡ cursorSaid (now (listing .entry)) at ⌝ }
 {
     if listing.len() - at < 7 {
         return Read::Refused(Refusal::ListingForm(at));
     }
-    let body = spoiled_at(listing, at);
+    let body = mismatch_body(listing, at);
     Read::Whole(Record::AlikeInPattern(body), Cursor { at: at + 7 })
 }
 
 // A mismatch at a place of kind 4.
 fn read_alike_in_window(listing: &[u8], at: usize) -> Read
     requires { ⌜ KindAt (now listing) at 4 ⌝ }
-    ensures { λ r. ⌜ Reads (now (listing .entry)) at r ⌝ }
+    ensures { λ r. ⌜ readSaid r ≡ cursorSaid (now (listing .entry)) at ⌝ }
 {
     if listing.len() - at < 7 {
         return Read::Refused(Refusal::ListingForm(at));
     }
-    let body = spoiled_at(listing, at);
+    let body = mismatch_body(listing, at);
     Read::Whole(Record::AlikeInWindow(body), Cursor { at: at + 7 })
 }
 
@@ -109,7 +109,7 @@ fn number(high: u8, low: u8) -> u16
 // A closing at a place of kind 5.
 fn read_closing(listing: &[u8], at: usize) -> Read
     requires { ⌜ KindAt (now listing) at 5 ⌝ }
-    ensures { λ r. ⌜ Reads (now (listing .entry)) at r ⌝ }
+    ensures { λ r. ⌜ readSaid r ≡ cursorSaid (now (listing .entry)) at ⌝ }
 {
     if listing.len() - at < 5 {
         return Read::Refused(Refusal::ListingForm(at));
@@ -126,7 +126,7 @@ fn read_closing(listing: &[u8], at: usize) -> Read
 impl Cursor {
     // The record at the cursor, with the cursor after it. Refused by 15, then 6, both with the cursor's place.
     pub fn read(self, listing: &[u8]) -> Read
-        ensures { λ r. ⌜ Reads (now (listing .entry)) (self .at) r ⌝ }
+        ensures { λ r. ⌜ readSaid r ≡ cursorSaid (now (listing .entry)) (self .at) ⌝ }
     {
         let at = self.at;
         if listing.len() <= at {
@@ -145,7 +145,7 @@ impl Cursor {
 
     // The same, for a caller that waits for a pair: where a byte of kind 2 stands, the other kinds are not asked after.
     pub fn read_pair_first(self, listing: &[u8]) -> Read
-        ensures { λ r. ⌜ Reads (now (listing .entry)) (self .at) r ⌝ }
+        ensures { λ r. ⌜ readSaid r ≡ cursorSaid (now (listing .entry)) (self .at) ⌝ }
     {
         let at = self.at;
         if at < listing.len() {

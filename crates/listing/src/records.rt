@@ -4,7 +4,7 @@ ghost use mathlib.Core.List.{[], _∷_};
 ghost use Prim.Native.Nat.{_+_, _≤_};
 ghost use lib.ListN.{length};
 ghost use Rattle.theory.specs.Written.{written};
-ghost use Rattle.listing.specs.Records.{bytesOf, spoiledBytes};
+ghost use Rattle.listing.specs.Records.{bytesOf, mismatchBytes};
 
 // A place by row and column: a window's corner in the text, or a cell in the pattern.
 pub struct Place {
@@ -13,7 +13,7 @@ pub struct Place {
 }
 
 // A window, and the two cells that spoil it.
-pub struct Spoiled {
+pub struct MismatchBody {
     pub window: Place,
     pub earlier: Place,
     pub later: Place,
@@ -26,9 +26,9 @@ pub enum Record {
     // kind 2
     Pair { pattern: u8, text: u8 },
     // kind 3
-    AlikeInPattern(Spoiled),
+    AlikeInPattern(MismatchBody),
     // kind 4
-    AlikeInWindow(Spoiled),
+    AlikeInWindow(MismatchBody),
     // kind 5
     Closing { found: u16, refused: u16 },
 }
@@ -55,10 +55,10 @@ fn put_five(listing: &mut [u8], at: usize, a: u8, b: u8, c: u8, d: u8, e: u8)
     listing[at + 4] = e;
 }
 
-// Writes a spoiled window's record of a kind at a place.
-fn put_spoiled(listing: &mut [u8], at: usize, kind: u8, body: Spoiled)
+// Writes a refused window's record of a kind at a place.
+fn put_mismatch(listing: &mut [u8], at: usize, kind: u8, body: MismatchBody)
     requires { ⌜ at + 7 ≤ length (now listing) ⌝ }
-    ensures { λ r. ⌜ now (listing .exit) ≡ written (now (listing .entry)) at (kind ∷ spoiledBytes body) ⌝ }
+    ensures { λ r. ⌜ now (listing .exit) ≡ written (now (listing .entry)) at (kind ∷ mismatchBytes body) ⌝ }
 {
     listing[at] = kind;
     listing[at + 1] = body.window.row;
@@ -85,11 +85,11 @@ pub fn write_record(listing: &mut [u8], at: usize, item: Record) -> usize
             at + 3
         }
         Record::AlikeInPattern(body) => {
-            put_spoiled(listing, at, 3, body);
+            put_mismatch(listing, at, 3, body);
             at + 7
         }
         Record::AlikeInWindow(body) => {
-            put_spoiled(listing, at, 4, body);
+            put_mismatch(listing, at, 4, body);
             at + 7
         }
         Record::Closing { found, refused } => {

@@ -7,7 +7,7 @@ use mathlib.Core.Bool.{Bool}
 use Prim.Native.Nat.{ℕ}
 use lib.ListN.{set, replicate}
 use Rattle.theory.specs.Columns.{agree, free, chained}
-use Rattle.shapes.specs.Said.{Said, accepts, refuses, _then_, check, outcomeSaid}
+use Rattle.shapes.specs.Said.{Said, newBy, _then_, check, outcomeSaid}
 use Rattle.mapping.specs.declared.bijections.Bijection.{Bijection}
 use Rattle.mapping.specs.declared.bijections.BijectionAnswer.{BijectionAnswer}
 
@@ -38,21 +38,19 @@ pub record Renamed : Type 0 where
   pub said : Said
   pub bijection : Bijection
 
+-- an answer as such a pair
 abbrev pub renamed : BijectionAnswer → Renamed
 renamed r = record { said = outcomeSaid (r .outcome); bijection = r .bijection }
 
 -- accepted, the new bijection; refused, the old one
-abbrev pub bijectionBy : Said → Bijection → Bijection → Bijection
-bijectionBy (accepts values) new old = new
-bijectionBy (refuses number values) new old = old
-
 abbrev pub renamedBy : Said → Bijection → Bijection → Renamed
-renamedBy said new old = record { said = said; bijection = bijectionBy said new old }
+renamedBy said new old = record { said = said; bijection = newBy said new old }
 
 -- pairing a with c: 14, then 12 where a has another image, then 13 where c is another's image
 unfoldable pub pairSaid : Bijection → ℕ → ℕ → Said
 pairSaid b a c = check (goodColumns b) 14 then check (free (b .forward) a c) 12 then check (free (b .backward) c a) 13
 
+-- the operation: a and c paired
 unfoldable pub pairOf : Bijection → ℕ → ℕ → Renamed
 pairOf b a c = renamedBy (pairSaid b a c) (paired b a c) b
 
@@ -60,6 +58,7 @@ pairOf b a c = renamedBy (pairSaid b a c) (paired b a c) b
 unfoldable pub invertSaid : Bijection → Said
 invertSaid b = check (goodColumns b) 14
 
+-- the operation: the columns exchanged
 unfoldable pub invertOf : Bijection → Renamed
 invertOf b = renamedBy (invertSaid b) (inverse b) b
 
@@ -67,5 +66,6 @@ invertOf b = renamedBy (invertSaid b) (inverse b) b
 unfoldable pub composeSaid : Bijection → Bijection → Said
 composeSaid b d = check (goodColumns b) 14 then check (goodColumns d) 14
 
+-- the operation: first b, then d
 unfoldable pub composeOf : Bijection → Bijection → Renamed
 composeOf b d = renamedBy (composeSaid b d) (composite b d) b

@@ -1,4 +1,5 @@
-// Bijections between symbols, as two columns: forward gives the image of a pattern symbol, backward the preimage of a text symbol.
+// Bijections between symbols, as two columns: forward gives the image of a pattern symbol, backward the preimage of a
+// text symbol.
 ghost use mathlib.Core.Path.{_≡_};
 ghost use Rattle.theory.specs.Columns.{noneOr, through, chained, backAt, leadsBack};
 ghost use Rattle.mapping.specs.Bijections.{emptyBijection, goodColumns, renamed, pairOf, invertOf, composeOf};

@@ -2,20 +2,21 @@
 -- Assumes nothing.
 pub mod Positions
 pub mod Rows
-pub mod Scans
-pub mod RowScans
+pub mod Ends
+pub mod Columns
 pub mod Accepted
 pub mod Verdicts
 use mathlib.Core.List.{List, [], _∷_}
 use Prim.Native.Nat.{ℕ, _+_, _*_, _≤_, _<_}
+use lib.Dec.{eqb}
 use lib.ListN.{length, getD, replicate}
 use Rattle.theory.specs.Test.{pick}
 use Rattle.theory.specs.Match.{Matches, Answer, matched, mismatched, answerOf, column}
-use Rattle.shapes.specs.Said.{Said, accepts, _then_, check, refusalSaid}
+use Rattle.shapes.specs.Said.{Said, accepts, _then_, check, refusalSaid, newBy}
 use Rattle.shapes.specs.Questions.{Question, shapeSaid}
 use Rattle.shapes.specs.Shapes.{cornerInside, Corner}
 use Rattle.shapes.specs.Windows.{windowAt}
-use Rattle.mapping.specs.Bijections.{emptyBijection, bijectionBy}
+use Rattle.mapping.specs.Bijections.{emptyBijection}
 use Rattle.mapping.specs.declared.bijections.Bijection.{Bijection}
 use Rattle.shapes.specs.declared.windows.WindowPlace.{WindowPlace}
 use Rattle.matching.specs.declared.compare.Verdict.{Verdict}
@@ -26,8 +27,8 @@ use Rattle.matching.specs.declared.compare.Verdict.the-variants.{Match, 
 abbrev pub patternAt : List ℕ → ℕ → ℕ
 patternAt pattern p = getD pattern p 0
 
--- what a verdict says: of a mismatch its record's kind, 3 where alike in the pattern only and 4 where alike in the window only, and the two cells by position.
--- A match's values are its bijection, which stands beside the verdict.
+-- what a verdict says: of a mismatch its record's kind, 3 where alike in the pattern only and 4 where alike in the
+-- window only, and the two cells by position. A match's values are its bijection, which stands beside the verdict.
 abbrev pub verdictSaid : Verdict → Said
 verdictSaid Match = accepts []
 verdictSaid (Mismatch alike earlier later) = accepts (pick alike 3 4 ∷ earlier ∷ later ∷ [])
@@ -45,13 +46,15 @@ bijectionOf m w n (mismatched alike earlier later) = emptyBijection
 
 -- ---- of a question
 
--- the pattern's symbols by position, those of the window at a corner, and how many positions there are
+-- the pattern's symbols by position
 abbrev pub patternOf : Question → ℕ → ℕ
 patternOf q = patternAt (q .pattern .cells)
 
+-- those of the window at a corner
 abbrev pub windowIn : Question → ℕ → ℕ → ℕ → ℕ
 windowIn q row column = windowAt (q .text .cells) (q .text .columns) row column (q .pattern .columns)
 
+-- how many positions there are
 abbrev pub positions : Question → ℕ
 positions q = q .pattern .rows * q .pattern .columns
 
@@ -68,13 +71,14 @@ abbrev pub answerIn : Question → ℕ → ℕ → Answer
 answerIn q row column = answerOf (patternOf q) (windowIn q row column) (positions q)
 
 -- and the bijection that it has
-abbrev pub bijectionIn : Question → ℕ → ℕ → Bijection
-bijectionIn q row column = bijectionOf (patternOf q) (windowIn q row column) (positions q) (answerIn q row column)
+abbrev pub bijectionAt : Question → ℕ → ℕ → Bijection
+bijectionAt q row column = bijectionOf (patternOf q) (windowIn q row column) (positions q) (answerIn q row column)
 
 -- 2, 3, 4, 5 in this order
 unfoldable pub placeSaid : Question → ℕ → ℕ → Said
 placeSaid q row column =
-    shapeSaid q then check (cornerInside (q .text .rows) (q .text .columns) (q .pattern .rows) (q .pattern .columns) row column) 5
+    shapeSaid q then check (cornerInside (q .text .rows) (q .text .columns) (q .pattern .rows) (q .pattern .columns) row
+    column) 5
 
 -- then the answer
 unfoldable pub windowSaid : Question → ℕ → ℕ → Said
@@ -85,23 +89,29 @@ pub record Told : Type 0 where
   pub said : Said
   pub bijection : Bijection
 
+-- an answer as such a pair
 abbrev pub told : WindowAnswer → Told
 told r = record { said = verdictSaid (r .verdict); bijection = r .bijection }
 
 -- the one-window question; beside a refusal stands the empty bijection
 unfoldable pub oneWindowOf : Question → ℕ → ℕ → Told
 oneWindowOf q row column =
-    record { said = windowSaid q row column; bijection = bijectionBy (placeSaid q row column) (bijectionIn q row column) emptyBijection }
+    record {
+      said = windowSaid q row column;
+      bijection = newBy (placeSaid q row column) (bijectionAt q row column) emptyBijection;
+    }
 
--- What the inner functions' contracts cite.
+-- ---- the same of a window by its place
 
 -- the window's symbols by position
 abbrev pub windowOf : List ℕ → WindowPlace → ℕ → ℕ
 windowOf text v = windowAt text (v .columns) (v .row) (v .column) (v .width)
 
 -- how many positions there are
-abbrev pub cellsOf : WindowPlace → ℕ
-cellsOf v = v .height * v .width
+abbrev pub cellCount : WindowPlace → ℕ
+cellCount v = v .height * v .width
+
+-- What the inner functions' contracts cite.
 
 -- a window of that size lies in the text
 pub record Placed (text : List ℕ) (v : WindowPlace) : Type 0 where
@@ -114,3 +124,7 @@ pub record Placed (text : List ℕ) (v : WindowPlace) : Type 0 where
 -- no symbol has an image
 abbrev pub noImages : List ℕ
 noImages = replicate 256 256
+
+-- the verdict that names two positions, by the pattern's symbols
+abbrev pub mismatchBetween : (ℕ → ℕ) → ℕ → ℕ → Verdict
+mismatchBetween m q p = Mismatch (eqb (m q) (m p)) q p

@@ -1,18 +1,24 @@
-// The one-window question: a pattern against the window of its size at a corner of a text. The window is read in place, row by row, through its view.
+// The one-window question: a pattern against the window of its size at a corner of a text. The window is read in place,
+// row by row, through its view.
 ghost use mathlib.Core.Path.{_≡_};
-ghost use Prim.Native.Nat.{_<_};
-ghost use lib.Dec.{ltb};
-ghost use lib.ListN.{length};
-ghost use Rattle.theory.specs.Test.{pick};
-ghost use Rattle.theory.specs.First.{first};
-ghost use Rattle.theory.specs.Match.{mismatchBy, earliest, firstEnd, mismatchEnding, answerOf, column};
-ghost use Rattle.theory.specs.Match.Images.{agreesBy};
+ghost use Prim.Native.Nat.{_+_, _<_};
+ghost use lib.ListN.{length, replicate};
+ghost use Rattle.theory.specs.Bytes.{Bytes};
+ghost use Rattle.theory.specs.Match.{answerOf, column};
 ghost use Rattle.shapes.specs.Said.{outcomeSaid};
 ghost use Rattle.shapes.specs.Questions.{ask, asked};
-ghost use Rattle.matching.specs.Compare.{patternAt, windowOf, cellsOf, Placed, noImages, verdictOf, bijectionOf, placeSaid, told, oneWindowOf};
-ghost use Rattle.matching.specs.Compare.RowScans.{RowEnds, mismatchIn};
+ghost use Rattle.prefixes.specs.Prefixes.{EndIs};
+ghost use Rattle.prefixes.specs.State.{FirstPlaces};
+ghost use Rattle.matching.specs.Compare.{patternAt, windowOf, cellCount, Placed, noImages, verdictOf};
+ghost use Rattle.matching.specs.Compare.{bijectionOf, placeSaid, told, oneWindowOf, mismatchBetween};
+ghost use Rattle.matching.specs.Compare.Columns.{MatchAt, PairsTo};
 use mapping::bijections::Bijection;
 use mapping::bijections::empty;
+use reach::places::first_places;
+use reach::places::no_positions;
+use reach::reach::Far;
+use reach::rows::earlier_by;
+use reach::rows::part_end;
 use shapes::refusals::Outcome;
 use shapes::refusals::Reason;
 use shapes::refusals::Refusal;
@@ -41,150 +47,62 @@ pub struct WindowAnswer {
     pub bijection: Bijection,
 }
 
-// Whether two positions are alike on one side only: a and b are their pattern symbols, x and y their window symbols.
-fn mismatch(a: u8, b: u8, x: u8, y: u8) -> bool
-    ensures { λ r. ⌜ r ≡ mismatchBy a b x y ⌝ }
+// The window's symbol at one position.
+pub fn symbol_at(text: &[u8], v: WindowPlace, p: usize) -> u8
+    requires { ⌜ Placed (now text) v × (p < cellCount v) ⌝ }
+    ensures { λ r. ⌜ r ≡ windowOf (now (text .entry)) v p ⌝ }
 {
-    if a == b { x != y } else { x == y }
+    window_symbol(text, v.columns, v.row, v.column, v.width, p)
 }
 
-// Whether two symbols may be paired, where f is the image of the first and g the preimage of the second, which is c.
-fn may_pair(f: u16, g: u16, c: u8) -> bool
-    ensures { λ r. ⌜ r ≡ agreesBy f g c ⌝ }
-{
-    if f == 256 {
-        g == 256
-    } else {
-        let d = c as u16;
-        f == d
-    }
-}
-
-// The first cell of a row at which a mismatch ends, or the row's length where none does: cells is the pattern's row, row the window's. The columns, which
-// come with the pairs of the positions before the row, then have those of the cells before it as well.
-fn scan_row(row: &[u8], cells: &[u8], forward: &mut [u16; 256], backward: &mut [u16; 256]) -> usize
-    requires { ⌜
-        (length (now cells) ≡ length (now row)) × (length (now forward) ≡ 256) × (length (now backward) ≡ 256) ⌝ }
-    ensures { λ r. ⌜
-        RowEnds (now (row .entry)) (now (cells .entry)) (now (forward .entry)) (now (backward .entry)) r
-        (now (forward .exit)) (now (backward .exit)) ⌝ }
-{
-    let n = row.len();
-    let mut p = 0;
-    while p < n {
-        let a = cells[p];
-        let c = row[p];
-        let i = a as usize;
-        let j = c as usize;
-        if !may_pair(forward[i], backward[j], c) {
-            return p;
-        }
-        forward[i] = c as u16;
-        backward[j] = a as u16;
-        p += 1;
-    }
-    p
-}
-
-// The first position at which a mismatch ends, or the number of cells where none does. The columns, which come empty, then have the pairs
-// of the positions before it.
-fn scan(
+// The position at which a mismatch of the window ends first, with the mismatch's earlier position; where none ends, the
+// number of positions, with 0. The window is a strip of its own here, so its positions are the strip's places.
+fn first_end(
     text: &[u8],
     v: WindowPlace,
     pattern: &[u8],
-    forward: &mut [u16; 256],
-    backward: &mut [u16; 256],
-) -> usize
+    first: &[usize; 256],
+    last: &mut [usize; 256],
+) -> Far
     requires { ⌜
-        Placed (now text) v × (length (now pattern) ≡ cellsOf v) × (now forward ≡ noImages)
-        × (now backward ≡ noImages) ⌝ }
-    ensures { λ r. ⌜ r ≡ firstEnd (patternAt (now (pattern .entry))) (windowOf (now (text .entry)) v) (cellsOf v) ⌝ }
+        Placed (now text) v × (length (now pattern) ≡ cellCount v)
+        × FirstPlaces (patternAt (now pattern)) (length (now pattern)) (now first) × (now last ≡ replicate 256 0) ⌝ }
     ensures { λ r. ⌜
-        now (forward .exit) ≡ column (patternAt (now (pattern .entry))) (windowOf (now (text .entry)) v) r ⌝ }
-    ensures { λ r. ⌜
-        now (backward .exit) ≡ column (windowOf (now (text .entry)) v) (patternAt (now (pattern .entry))) r ⌝ }
+        EndIs (patternAt (now (pattern .entry))) (windowOf (now (text .entry)) v) (cellCount v) (r .place)
+        (r .earlier) ⌝ }
 {
     let height = v.height;
     let mut from = 0;
     let mut i = 0;
     while i < height {
         let row = window_row(text, v.columns, v.row, v.column, v.width, i);
-        let cells = &pattern[from..from + v.width];
-        let j = scan_row(row, cells, forward, backward);
+        let j = part_end(pattern, row, first, last, 0, from);
         if j < v.width {
-            return from + j;
+            let x = row[j] as usize;
+            return Far {
+                place: from + j,
+                earlier: earlier_by(pattern, first, 0, last[x], from + j),
+            };
         }
         from += v.width;
         i += 1;
     }
-    from
-}
-
-// The window's symbol at one position.
-pub fn symbol_at(text: &[u8], v: WindowPlace, p: usize) -> u8
-    requires { ⌜ Placed (now text) v × (p < cellsOf v) ⌝ }
-    ensures { λ r. ⌜ r ≡ windowOf (now (text .entry)) v p ⌝ }
-{
-    window_symbol(text, v.columns, v.row, v.column, v.width, p)
-}
-
-// The first cell of a row that mismatches with a position whose symbols are a and x, or the row's length where none does.
-fn earlier_in_row(row: &[u8], cells: &[u8], a: u8, x: u8) -> usize
-    requires { ⌜ length (now cells) ≡ length (now row) ⌝ }
-    ensures { λ r. ⌜ r ≡ first (mismatchIn (now (row .entry)) (now (cells .entry)) a x) (length (now (row .entry))) ⌝ }
-{
-    let mut q = 0;
-    while q < row.len() {
-        if mismatch(cells[q], a, row[q], x) {
-            return q;
-        }
-        q += 1;
+    Far {
+        place: from,
+        earlier: 0,
     }
-    q
 }
 
-// The lesser of two numbers.
-fn lesser(m: usize, n: usize) -> usize
-    ensures { λ r. ⌜ r ≡ pick (ltb m n) m n ⌝ }
+// The mismatch of two positions; the pattern's two symbols tell the side.
+fn mismatch_between(pattern: &[u8], earlier: usize, later: usize) -> Verdict
+    requires { ⌜ (earlier < length (now pattern)) × (later < length (now pattern)) ⌝ }
+    ensures { λ r. ⌜ r ≡ mismatchBetween (patternAt (now (pattern .entry))) earlier later ⌝ }
 {
-    if m < n { m } else { n }
-}
-
-// The first position that mismatches with the position later, or later where none does. The row of later is cut there.
-pub fn earlier_cell(text: &[u8], v: WindowPlace, pattern: &[u8], later: usize) -> usize
-    requires { ⌜ Placed (now text) v × (length (now pattern) ≡ cellsOf v) × (later < cellsOf v) ⌝ }
-    ensures { λ r. ⌜ r ≡ earliest (patternAt (now (pattern .entry))) (windowOf (now (text .entry)) v) later ⌝ }
-{
-    let a = pattern[later];
-    let x = symbol_at(text, v, later);
-    let mut from = 0;
-    let mut i = 0;
-    while from < later {
-        let n = lesser(v.width, later - from);
-        let row = window_row(text, v.columns, v.row, v.column, n, i);
-        let cells = &pattern[from..from + n];
-        let q = earlier_in_row(row, cells, a, x);
-        if q < n {
-            return from + q;
-        }
-        from += n;
-        i += 1;
-    }
-    from
-}
-
-// The mismatch that ends at the position later, which some mismatch does, and begins first.
-fn mismatch_ending(text: &[u8], v: WindowPlace, pattern: &[u8], later: usize) -> Verdict
-    requires { ⌜ Placed (now text) v × (length (now pattern) ≡ cellsOf v) × (later < cellsOf v) ⌝ }
-    ensures { λ r. ⌜
-        r ≡ verdictOf (mismatchEnding (patternAt (now (pattern .entry))) (windowOf (now (text .entry)) v) later) ⌝ }
-{
-    let q = earlier_cell(text, v, pattern, later);
-    let a = pattern[q];
+    let a = pattern[earlier];
     let b = pattern[later];
     Verdict::Mismatch {
         alike_in_pattern: a == b,
-        earlier: q,
+        earlier,
         later,
     }
 }
@@ -196,28 +114,88 @@ fn no_images() -> [u16; 256]
     [256u16; 256]
 }
 
+// The symbol a of the pattern, if it is one, is paired with the window's symbol at a's first place. The columns come
+// with the pairs of the symbols below a.
+fn pair_symbol(
+    text: &[u8],
+    v: WindowPlace,
+    pattern: &[u8],
+    first: &[usize; 256],
+    forward: &mut [u16; 256],
+    backward: &mut [u16; 256],
+    a: usize,
+)
+    requires { ⌜
+        MatchAt (now text) v (now pattern) (now first) × (a < 256)
+        × PairsTo (patternAt (now pattern)) (windowOf (now text) v) (cellCount v) a (now forward) (now backward) ⌝ }
+    ensures { λ r. ⌜
+        PairsTo (patternAt (now (pattern .entry))) (windowOf (now (text .entry)) v) (cellCount v) (a + 1)
+        (now (forward .exit)) (now (backward .exit)) ⌝ }
+{
+    let p = first[a];
+    if pattern.len() <= p {
+        return;
+    }
+    let b = pattern[p] as usize;
+    if b != a {
+        return;
+    }
+    let x = symbol_at(text, v, p);
+    forward[a] = x as u16;
+    backward[x as usize] = a as u16;
+}
+
+// The columns of a match, which come empty, from the first place of each symbol.
+fn match_columns(
+    text: &[u8],
+    v: WindowPlace,
+    pattern: &[u8],
+    first: &[usize; 256],
+    forward: &mut [u16; 256],
+    backward: &mut [u16; 256],
+)
+    requires { ⌜
+        MatchAt (now text) v (now pattern) (now first) × (now forward ≡ noImages) × (now backward ≡ noImages) ⌝ }
+    ensures { λ r. ⌜
+        now (forward .exit)
+        ≡ column (patternAt (now (pattern .entry))) (windowOf (now (text .entry)) v) (cellCount v) ⌝ }
+    ensures { λ r. ⌜
+        now (backward .exit)
+        ≡ column (windowOf (now (text .entry)) v) (patternAt (now (pattern .entry))) (cellCount v) ⌝ }
+{
+    let mut a = 0;
+    while a < 256 {
+        pair_symbol(text, v, pattern, first, forward, backward, a);
+        a += 1;
+    }
+}
+
 // The pattern compared with the window of its size.
 fn compare(text: &[u8], v: WindowPlace, pattern: &[u8]) -> WindowAnswer
-    requires { ⌜ Placed (now text) v × (length (now pattern) ≡ cellsOf v) ⌝ }
+    requires { ⌜ Placed (now text) v × (length (now pattern) ≡ cellCount v) ⌝ }
     ensures { λ r. ⌜
         r .verdict ≡ verdictOf
-        (answerOf (patternAt (now (pattern .entry))) (windowOf (now (text .entry)) v) (cellsOf v)) ⌝ }
+        (answerOf (patternAt (now (pattern .entry))) (windowOf (now (text .entry)) v) (cellCount v)) ⌝ }
     ensures { λ r. ⌜
-        r .bijection ≡ bijectionOf (patternAt (now (pattern .entry))) (windowOf (now (text .entry)) v) (cellsOf v)
-        (answerOf (patternAt (now (pattern .entry))) (windowOf (now (text .entry)) v) (cellsOf v)) ⌝ }
+        r .bijection ≡ bijectionOf (patternAt (now (pattern .entry))) (windowOf (now (text .entry)) v) (cellCount v)
+        (answerOf (patternAt (now (pattern .entry))) (windowOf (now (text .entry)) v) (cellCount v)) ⌝ }
 {
     let n = v.height * v.width;
-    let mut f = no_images();
-    let mut g = no_images();
-    let end = scan(text, v, pattern, &mut f, &mut g);
-    if end < n {
-        let verdict = mismatch_ending(text, v, pattern, end);
+    let mut first = no_positions();
+    let mut last = no_positions();
+    first_places(pattern, &mut first);
+    let end = first_end(text, v, pattern, &first, &mut last);
+    if end.place < n {
+        let verdict = mismatch_between(pattern, end.earlier, end.place);
         let none = empty();
         return WindowAnswer {
             verdict,
             bijection: none,
         };
     }
+    let mut f = no_images();
+    let mut g = no_images();
+    match_columns(text, v, pattern, &first, &mut f, &mut g);
     let b = Bijection {
         forward: f,
         backward: g,
@@ -246,7 +224,8 @@ fn window_outcome(text: &[u8], pattern: &[u8], s: Shape, row: usize, column: usi
     Outcome::Accepted
 }
 
-// Whether the pattern matches the window of its size at that corner of a text.
+// Whether the pattern matches the window of its size at that corner of a text. That text and pattern are bytes, which
+// their types say, is ensured too, so that what is said of the bijection needs nothing but what stands here.
 pub fn one_window(
     text: &[u8],
     rows: usize,
@@ -259,6 +238,7 @@ pub fn one_window(
 ) -> WindowAnswer
     ensures { λ r. ⌜
         told r ≡ oneWindowOf (ask (now (text .entry)) rows columns (now (pattern .entry)) height width) row column ⌝ }
+    ensures { λ r. ⌜ Bytes (now (text .entry)) × Bytes (now (pattern .entry)) ⌝ }
 {
     let s = Shape {
         rows,

@@ -1,17 +1,11 @@
 // A place in the pattern for each of its symbols.
 ghost use mathlib.Core.Path.{_≡_};
 ghost use Prim.Native.Nat.{_≤_};
-ghost use lib.ListN.{length, replicate};
+ghost use lib.ListN.{length};
 ghost use Rattle.matching.specs.Places.{PlacesOf};
 
-// No places yet.
-pub fn no_places() -> [u16; 256]
-    ensures { λ r. ⌜ r ≡ replicate 256 0 ⌝ }
-{
-    [0u16; 256]
-}
-
-// A place in the pattern for each of its symbols. Any will do: where the pattern matches, all places of a symbol have the same window symbol.
+// A place in the pattern for each of its symbols. Any will do: where the pattern matches, all places of a symbol have
+// the same window symbol.
 pub fn places_of(pattern: &[u8], places: &mut [u16; 256])
     requires { ⌜ (length (now pattern) ≤ 65025) × (length (now places) ≡ 256) ⌝ }
     ensures { λ r. ⌜ PlacesOf (now (pattern .entry)) (now (places .exit)) ⌝ }

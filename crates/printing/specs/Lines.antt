@@ -1,5 +1,5 @@
--- Document 01's output: 'a record a line, its bytes in decimal with one space between, line feed. A refusal prints the word refused, one space and the
--- number, alone on a line.' Bytes are ASCII: 32 is the space, 10 the line feed.
+-- Document 01's output: 'a record a line, its bytes in decimal with one space between, line feed. A refusal prints the
+-- word refused, one space and the number, alone on a line.' Bytes are ASCII: 32 is the space, 10 the line feed.
 -- Assumes nothing.
 pub mod Writing
 pub mod Unique

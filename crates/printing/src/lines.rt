@@ -1,10 +1,11 @@
-// Document 01's output: a record a line, its bytes in decimal with one space between, line feed; a refusal alone on a line.
+// Document 01's output: a record a line, its bytes in decimal with one space between, line feed; a refusal alone on a
+// line.
 ghost use mathlib.Core.Path.{_≡_};
 ghost use Prim.Native.Nat.{_+_, _*_, _≤_, _<_};
 ghost use lib.ListN.{length};
 ghost use Rattle.theory.specs.Written.{written};
 ghost use Rattle.listing.specs.Reader.{sizeAt};
-ghost use Rattle.listing.specs.Reading.{HasRecord};
+ghost use Rattle.listing.specs.Reader.Reading.{HasRecord};
 ghost use Rattle.printing.specs.Lines.{lineOf, refusalLine, Recorded, Printed};
 use crate::decimal::write_item;
 use listing::reader::Cursor;
@@ -38,8 +39,8 @@ fn record_end(listing: &[u8], at: usize) -> usize
     }
 }
 
-// Writes the lines of a listing's records at a place; the place after them. A byte of the listing takes at most four: three digits and a space or
-// the line feed.
+// Writes the lines of a listing's records at a place; the place after them. A byte of the listing takes at most four:
+// three digits and a space or the line feed.
 pub fn write_lines(output: &mut [u8], at: usize, listing: &[u8]) -> usize
     requires { ⌜ Recorded (now listing) × (at + 4 * length (now listing) ≤ length (now output)) ⌝ }
     ensures { λ r. ⌜ Printed (now (listing .entry)) (now (output .entry)) at (now (output .exit)) r ⌝ }

@@ -10,9 +10,9 @@ use lib.Dec.{leb}
 use lib.ListN.{length}
 use Rattle.theory.specs.Test.{both}
 use Rattle.shapes.specs.Said.{Said, accepts, refuses, _then_, check, checkWith, bufferBy, refusalSaid}
-use Rattle.shapes.specs.Questions.{Question, shapeSaid, stripOf, windowsOf}
+use Rattle.shapes.specs.Questions.{Question, shapeSaid, linksNeeded, windowsOf}
 use Rattle.flags.specs.Flags.{Work, working, Rooms, roomsOf, marked}
-use Rattle.search.specs.Listing.{foundIn, refusedIn, neededLength, searchListing}
+use Rattle.writer.specs.Listing.{foundIn, refusedIn, neededLength, searchListing}
 use Rattle.search.specs.declared.search.Searched.{Searched}
 use Rattle.search.specs.declared.search.Searched.the-variants.{Listed, Refused}
 
@@ -21,6 +21,7 @@ pub record Lent : Type 0 where
   pub work : Work
   pub listing : List ℕ
 
+-- by its parts
 abbrev pub lend : List ℕ → List ℕ → List ℕ → List ℕ → Lent
 lend links counts flags listing = record { work = working links counts flags; listing = listing }
 
@@ -29,18 +30,21 @@ pub record Done : Type 0 where
   pub said : Said
   pub lent : Lent
 
--- document 01's number and values of an answer: accepted, found, refused and the length; of a refusal its number and what it returns besides
+-- document 01's number and values of an answer: accepted, found, refused and the length; of a refusal its number and
+-- what it returns besides
 abbrev pub searchedSaid : Searched → Said
 searchedSaid (Listed found refused size) = accepts (found ∷ refused ∷ size ∷ [])
 searchedSaid (Refused why) = refusalSaid why
 
+-- an answer, with the buffers then
 abbrev pub done : Searched → Lent → Done
 done r l = record { said = searchedSaid r; lent = l }
 
 -- 2, 3, 4, 9, 10 in this order
 unfoldable pub roomSaid : Question → Rooms → Said
 roomSaid q r =
-    shapeSaid q then check (leb (stripOf q) (r .links)) 9 then check (both (leb (windowsOf q) (r .counts)) (leb (windowsOf q) (r .flags))) 10
+    shapeSaid q then check (leb (linksNeeded q) (r .links)) 9 then check
+    (both (leb (windowsOf q) (r .counts)) (leb (windowsOf q) (r .flags))) 10
 
 -- then 11, which returns the length needed; accepted, found, refused and the length
 unfoldable pub listedSaid : Question → ℕ → Said
@@ -53,7 +57,12 @@ unfoldable pub listedOf : Question → Lent → Done
 listedOf q l =
     record {
       said = listedSaid q (length (l .listing));
-      lent = record { work = marked q (l .work); listing = bufferBy (listedSaid q (length (l .listing))) (searchListing q) (l .listing) };
+      lent =
+          record {
+            work = marked q (l .work);
+            listing = bufferBy (listedSaid q (length (l .listing))) (searchListing q)
+                (l .listing);
+          };
     }
 
 -- a refusal that changes no buffer, or what is done after it

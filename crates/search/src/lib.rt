@@ -1,6 +1,4 @@
-// The search: the flag of every window, and then the listing. Its steps are parts of it, and no operations of their own.
-mod ends;
-mod entries;
+// The search: the flag of every window, and then the listing. Its steps are parts of it, and no operations of their
+// own.
 pub mod search;
 mod totals;
-mod writing;

@@ -1,4 +1,5 @@
-// Document 01's search: every window of a text once, found with its bijection or refused with the two cells that spoil it.
+// Document 01's search: every window of a text once, found with its bijection or refused with the two cells that spoil
+// it.
 ghost use mathlib.Core.Path.{_≡_};
 ghost use Rattle.theory.specs.Bytes.{Bytes};
 ghost use Rattle.shapes.specs.Said.{outcomeSaid};
@@ -7,13 +8,13 @@ ghost use lib.ListN.{length};
 ghost use Rattle.flags.specs.Flags.{RoomFor, rooms};
 ghost use Rattle.search.specs.Search.{done, lend, roomSaid, listedOf, searchOf};
 use crate::totals::totals_of;
-use crate::writing::write_listing;
 use flags::flags::flag_all;
 use shapes::refusals::Outcome;
 use shapes::refusals::Reason;
 use shapes::refusals::Refusal;
 use shapes::shapes::Shape;
 use shapes::shapes::question_outcome;
+use writer::writing::write_listing;
 
 // What a search answers.
 pub enum Searched {
@@ -59,7 +60,8 @@ fn room_outcome(
     Outcome::Accepted
 }
 
-// The search where nothing but the listing's room is left to ask: first the flags, then, where there is room for it, the listing.
+// The search where nothing but the listing's room is left to ask: first the flags, then, where there is room for it,
+// the listing.
 fn search_windows(
     text: &[u8],
     pattern: &[u8],
@@ -94,8 +96,9 @@ fn search_windows(
     }
 }
 
-// Searches a text for a pattern. Refused by 2, 3, 4, 9, 10, and by 11 once the length of the listing is known. That text and pattern are bytes, which their types say,
-// is ensured too, so that demand 3 needs nothing but what stands here.
+// Searches a text for a pattern. Refused by 2, 3, 4, 9, 10, and by 11 once the length of the listing is known. That
+// text and pattern are bytes, which their types say, is ensured too, so that demand 3 needs nothing but what stands
+// here.
 pub fn search(
     text: &[u8],
     rows: usize,

@@ -3,8 +3,8 @@ ghost use mathlib.Core.Path.{_≡_};
 ghost use Prim.Native.Nat.{_≤_};
 ghost use lib.ListN.{length};
 ghost use Rattle.grid.specs.Distinct.{distinct};
-ghost use Rattle.search.specs.Listing.{listingLength};
-ghost use Rattle.search.specs.Listing.Totals.{ones, others};
+ghost use Rattle.writer.specs.Listing.{listingLength};
+ghost use Rattle.writer.specs.Listing.Totals.{ones, others};
 use sets::symbols::pattern_size;
 
 // The windows found and refused, and the length of their listing.

@@ -1,3 +1,2 @@
-// The lower library's third part: sets of symbols, and after how many rows a pattern repeats.
-pub mod repeats;
+// The lower library's third part: sets of symbols.
 pub mod symbols;

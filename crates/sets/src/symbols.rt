@@ -3,11 +3,13 @@ ghost use mathlib.Core.Path.{_≡_};
 ghost use mathlib.Core.Bool.{true, false};
 ghost use Prim.Native.Nat.{_≤_, _<_};
 ghost use lib.Dec.{eqb};
-ghost use lib.ListN.{length, take};
+ghost use lib.ListN.{length};
 ghost use Rattle.theory.specs.Test.{pick};
 ghost use Rattle.theory.specs.Count.{members};
+ghost use Rattle.shapes.specs.Said.{overFront};
 ghost use Rattle.grid.specs.Distinct.{distinct};
-ghost use Rattle.sets.specs.Symbols.{bitOf, wordOf, has, setOf, symbolSet, sizeOf, lowestOf, withSymbol, withoutSymbol};
+ghost use Rattle.sets.specs.Symbols.{bitOf, wordOf, has, setOf, symbolSet, sizeOf, lowestOf, withSymbol};
+ghost use Rattle.sets.specs.Symbols.{withoutSymbol};
 
 // Bit k of word i is 1 where symbol 64 i + k is in the set.
 pub struct Symbols {
@@ -136,9 +138,8 @@ pub fn symbols_of(pattern: &[u8]) -> Symbols
 // The symbols of a set, rising, at the front of a list: for a walk that is made many times over.
 pub fn list_symbols(symbols: Symbols, listed: &mut [u8; 256]) -> usize
     requires { ⌜ length (now listed) ≡ 256 ⌝ }
-    ensures { λ r. ⌜ take r (now (listed .exit)) ≡ members (has symbols) 256 ⌝ }
-    ensures { λ r. ⌜ r ≤ 256 ⌝ }
-    ensures { λ r. ⌜ length (now (listed .exit)) ≡ 256 ⌝ }
+    ensures { λ r. ⌜ r ≡ length (members (has symbols) 256) ⌝ }
+    ensures { λ r. ⌜ now (listed .exit) ≡ overFront (members (has symbols) 256) (now (listed .entry)) ⌝ }
 {
     let mut rest = symbols;
     let mut k = 0;

@@ -1,11 +1,12 @@
--- Document 01's conditions on sides, cells and corners (2, 3, 4, 5), each a sealed test with one law that says what it tests.
+-- Document 01's conditions on sides, cells and corners (2, 3, 4, 5), each a sealed test with one law that says what it
+-- tests.
 -- Assumes nothing.
+pub mod Laws
 use mathlib.Core.Path.{_≡_}
 use mathlib.Core.Bool.{Bool}
 use Prim.Native.Nat.{ℕ, _+_, _-_, _*_, _≤_}
-use native.Mathlib.Nat.{mul-le-mul}
 use lib.Dec.{eqb, leb}
-use Rattle.theory.specs.Test.{Tested, both, tested-iff, eq-tested, le-tested, both-tested}
+use Rattle.theory.specs.Test.{both}
 use Rattle.shapes.specs.declared.shapes.Shape.{Shape}
 
 -- a side is from 1 to 255
@@ -16,12 +17,6 @@ pub record Side (n : ℕ) : Type 0 where
 pub goodSide : ℕ → Bool
 goodSide n = both (leb 1 n) (leb n 255)
 
-pub good-side : (n : ℕ) → Tested (Side n) (goodSide n)
-unfolding goodSide
-good-side n =
-    tested-iff (λ h. record { positive = h .0; small = h .1 }) (λ s. (s .positive, s .small))
-    (both-tested (le-tested 1 n) (le-tested n 255))
-
 -- every side of a text and of a window is
 pub record Sides (rows columns height width : ℕ) : Type 0 where
   pub rows-good : Side rows
@@ -30,23 +25,12 @@ pub record Sides (rows columns height width : ℕ) : Type 0 where
   pub width-good : Side width
 
 pub goodSides : ℕ → ℕ → ℕ → ℕ → Bool
-goodSides rows columns height width = both (goodSide rows) (both (goodSide columns) (both (goodSide height) (goodSide width)))
-
-pub good-sides : (rows columns height width : ℕ) → Tested (Sides rows columns height width) (goodSides rows columns height width)
-unfolding goodSides
-good-sides rows columns height width =
-    tested-iff
-    (λ h. record { rows-good = h .0; columns-good = h .1 .0; height-good = h .1 .1 .0; width-good = h .1 .1 .1 })
-    (λ s. (s .rows-good, (s .columns-good, (s .height-good, s .width-good))))
-    (both-tested (good-side rows) (both-tested (good-side columns) (both-tested (good-side height) (good-side width))))
+goodSides rows columns height width =
+    both (goodSide rows) (both (goodSide columns) (both (goodSide height) (goodSide width)))
 
 -- the cells given are rows × columns in number
 pub goodCells : ℕ → ℕ → ℕ → Bool
 goodCells cells rows columns = eqb cells (rows * columns)
-
-pub good-cells : (cells rows columns : ℕ) → Tested (cells ≡ rows * columns) (goodCells cells rows columns)
-unfolding goodCells
-good-cells cells rows columns = eq-tested cells (rows * columns)
 
 -- the window is neither taller nor wider than the text
 pub record Fits (rows columns height width : ℕ) : Type 0 where
@@ -56,12 +40,6 @@ pub record Fits (rows columns height width : ℕ) : Type 0 where
 pub fits : ℕ → ℕ → ℕ → ℕ → Bool
 fits rows columns height width = both (leb height rows) (leb width columns)
 
-pub fits-tested : (rows columns height width : ℕ) → Tested (Fits rows columns height width) (fits rows columns height width)
-unfolding fits
-fits-tested rows columns height width =
-    tested-iff (λ h. record { height-le = h .0; width-le = h .1 }) (λ s. (s .height-le, s .width-le))
-    (both-tested (le-tested height rows) (le-tested width columns))
-
 -- the corner is not beyond row R − r or column C − c
 pub record Corner (rows columns height width row column : ℕ) : Type 0 where
   pub row-le : row + height ≤ rows
@@ -69,13 +47,6 @@ pub record Corner (rows columns height width row column : ℕ) : Type 0 where
 
 pub cornerInside : ℕ → ℕ → ℕ → ℕ → ℕ → ℕ → Bool
 cornerInside rows columns height width row column = both (leb (row + height) rows) (leb (column + width) columns)
-
-pub corner-inside : (rows columns height width row column : ℕ)
-    → Tested (Corner rows columns height width row column) (cornerInside rows columns height width row column)
-unfolding cornerInside
-corner-inside rows columns height width row column =
-    tested-iff (λ h. record { row-le = h .0; column-le = h .1 }) (λ s. (s .row-le, s .column-le))
-    (both-tested (le-tested (row + height) rows) (le-tested (column + width) columns))
 
 -- how many corners there are along a side, none where the part is longer than the whole
 abbrev pub corners : ℕ → ℕ → ℕ
@@ -106,7 +77,3 @@ across s = corners (s .columns) (s .width)
 -- and how many down
 abbrev pub down : Shape → ℕ
 down s = corners (s .rows) (s .height)
-
--- a product of two small numbers is small
-pub product-le : (a b m n : ℕ) → a ≤ m → b ≤ n → a * b ≤ m * n
-product-le a b m n h k = mul-le-mul h k

@@ -1,7 +1,7 @@
 // What an operation refuses. specs/Refusals.antt gives document 01's number and value of each case.
 ghost use mathlib.Core.Path.{_≡_};
-ghost use Rattle.shapes.specs.Refusals.{reasonNumber, numberOf};
-ghost use Rattle.shapes.specs.Said.{saidNumber, outcomeSaid};
+ghost use Rattle.shapes.specs.Refusals.{reasonNumber, numberOf, valuesOf, valueOr};
+ghost use Rattle.shapes.specs.Said.{_then_, saidNumber, outcomeSaid};
 
 // Why an input, or a state, is refused where nothing is returned besides the number.
 pub enum Reason {
@@ -81,6 +81,20 @@ pub fn refusal_number(why: Refusal) -> u8
     }
 }
 
+// What a refusal returns besides, the length needed of 11 and the place of 6, 7 and 15, or another number where it
+// returns nothing.
+pub fn value_or(why: Refusal, other: usize) -> usize
+    ensures { λ r. ⌜ r ≡ valueOr (valuesOf why) other ⌝ }
+{
+    match why {
+        Refusal::Plain(_) => other,
+        Refusal::ListingForm(at) => at,
+        Refusal::ListingFalse(at) => at,
+        Refusal::ListingBufferShort(needed) => needed,
+        Refusal::CursorSpent(at) => at,
+    }
+}
+
 // The number of an outcome: 0 where it is accepted.
 pub fn outcome_number(outcome: Outcome) -> u8
     ensures { λ r. ⌜ r ≡ saidNumber (outcomeSaid outcome) ⌝ }
@@ -88,5 +102,15 @@ pub fn outcome_number(outcome: Outcome) -> u8
     match outcome {
         Outcome::Accepted => 0,
         Outcome::Refused(why) => refusal_number(why),
+    }
+}
+
+// The first of two that refuses, or the second: an order of refusals is a chain of these.
+pub fn outcome_then(first: Outcome, second: Outcome) -> Outcome
+    ensures { λ r. ⌜ outcomeSaid r ≡ outcomeSaid first then outcomeSaid second ⌝ }
+{
+    match first {
+        Outcome::Accepted => second,
+        Outcome::Refused(why) => Outcome::Refused(why),
     }
 }

@@ -4,10 +4,12 @@ ghost use Prim.Native.Nat.{_+_};
 ghost use lib.Dec.{leb};
 ghost use Rattle.shapes.specs.Shapes.{goodSide, goodSides, goodCells, fits, cornerInside};
 ghost use Rattle.shapes.specs.Said.{outcomeSaid};
-ghost use Rattle.shapes.specs.Questions.{gridOf, asked, sidesSaid, gridSaid, cellsSaid, sizeSaid, shapeSaid, textSaid};
+ghost use Rattle.shapes.specs.Questions.{gridOf, asked, sidesSaid, gridSaid, cellsSaid, sizeSaid, shapeSaid};
+ghost use Rattle.shapes.specs.Questions.{textSaid};
 use crate::refusals::Outcome;
 use crate::refusals::Reason;
 use crate::refusals::Refusal;
+use crate::refusals::outcome_then;
 
 // The sides of a text and of a window in it.
 pub struct Shape {
@@ -114,11 +116,9 @@ pub fn grid_outcome(cells: &[u8], rows: usize, columns: usize) -> Outcome
 pub fn cells_outcome(text: &[u8], pattern: &[u8], s: Shape) -> Outcome
     ensures { λ r. ⌜ outcomeSaid r ≡ cellsSaid (asked (now (text .entry)) (now (pattern .entry)) s) ⌝ }
 {
-    let outcome = grid_outcome(text, s.rows, s.columns);
-    let Outcome::Accepted = outcome else {
-        return outcome;
-    };
-    grid_outcome(pattern, s.height, s.width)
+    let of_text = grid_outcome(text, s.rows, s.columns);
+    let of_pattern = grid_outcome(pattern, s.height, s.width);
+    outcome_then(of_text, of_pattern)
 }
 
 // 4: the pattern is taller or wider than the text.
@@ -136,14 +136,9 @@ pub fn question_outcome(text: &[u8], pattern: &[u8], s: Shape) -> Outcome
     ensures { λ r. ⌜ outcomeSaid r ≡ shapeSaid (asked (now (text .entry)) (now (pattern .entry)) s) ⌝ }
 {
     let sides = sides_outcome(s);
-    let Outcome::Accepted = sides else {
-        return sides;
-    };
     let cells = cells_outcome(text, pattern, s);
-    let Outcome::Accepted = cells else {
-        return cells;
-    };
-    size_outcome(s)
+    let size = size_outcome(s);
+    outcome_then(sides, outcome_then(cells, size))
 }
 
 // The same of a text alone, and the sides of a window in it.
@@ -151,12 +146,7 @@ pub fn text_outcome(text: &[u8], s: Shape) -> Outcome
     ensures { λ r. ⌜ outcomeSaid r ≡ textSaid (now (text .entry)) s ⌝ }
 {
     let sides = sides_outcome(s);
-    let Outcome::Accepted = sides else {
-        return sides;
-    };
-    let cells = grid_outcome(text, s.rows, s.columns);
-    let Outcome::Accepted = cells else {
-        return cells;
-    };
-    size_outcome(s)
+    let grid = grid_outcome(text, s.rows, s.columns);
+    let size = size_outcome(s);
+    outcome_then(sides, outcome_then(grid, size))
 }

@@ -1,4 +1,5 @@
-// A window of a text is read in place, through its corner and the text's row width. Sides and corners are bytes: none is above 255.
+// A window of a text is read in place, through its corner and the text's row width. Sides and corners are bytes: none
+// is above 255.
 ghost use mathlib.Core.Path.{_≡_};
 ghost use Rattle.shapes.specs.Windows.{cellOf, rowCells};
 

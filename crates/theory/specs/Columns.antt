@@ -1,5 +1,5 @@
--- Two columns of 256 entries that give a bijection: entry a of the first is the image of a, entry b of the second the preimage of b, 256 stands
--- for none.
+-- Two columns of 256 entries that give a bijection: entry a of the first is the image of a, entry b of the second the
+-- preimage of b, 256 stands for none.
 -- Assumes nothing.
 pub mod Agreement
 pub mod Operations
@@ -14,7 +14,8 @@ use Rattle.theory.specs.Test.{pick, both}
 use Rattle.theory.specs.First.{every}
 use Rattle.theory.specs.Table.{table}
 
--- the columns agree: for all a and b up to 255 the first gives b at a exactly if the second gives a at b; and neither holds a number above 256
+-- the columns agree: for all a and b up to 255 the first gives b at a exactly if the second gives a at b; and neither
+-- holds a number above 256
 pub record Agree (f g : List ℕ) : Type 0 where
   pub forward-le : (a : ℕ) → a < 256 → getD f a 0 ≤ 256
   pub backward-le : (b : ℕ) → b < 256 → getD g b 0 ≤ 256
@@ -30,7 +31,8 @@ sameTest false false = true
 unfoldable pub agree : List ℕ → List ℕ → Bool
 agree f g =
     both (every (λ a. leb (getD f a 0) 256) 256)
-    (both (every (λ b. leb (getD g b 0) 256) 256) (every (λ a. every (λ b. sameTest (eqb (getD f a 0) b) (eqb (getD g b 0) a)) 256) 256))
+    (both (every (λ b. leb (getD g b 0) 256) 256)
+    (every (λ a. every (λ b. sameTest (eqb (getD f a 0) b) (eqb (getD g b 0) a)) 256) 256))
 
 -- x has no image in the column, or y
 abbrev pub Free : List ℕ → ℕ → ℕ → Type 0

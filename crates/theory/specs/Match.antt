@@ -1,12 +1,12 @@
--- What a parameterized match is (document 004, section 2): two sequences of symbols, a pattern m and a window w, over the positions below n.
--- Rows and columns enter only where a position is turned into a cell, which is not here.
+-- What a parameterized match is (document 004, section 2): two sequences of symbols, a pattern m and a window w, over
+-- the positions below n. Rows and columns enter only where a position is turned into a cell, which is not here.
 -- Assumes nothing.
 pub mod Even
 pub mod Answers
 pub mod Images
 pub mod Relation
-pub mod Renaming
 pub mod Ext
+pub mod Bijections
 use mathlib.Core.Path.{_≡_}
 use mathlib.Core.Bool.{Bool, true, false, not}
 use mathlib.Core.List.{List}
@@ -18,7 +18,8 @@ use Rattle.theory.specs.Table.{table}
 
 -- The meaning.
 
--- f gives the window's symbol for the pattern's at every position, and different symbols for different symbols of the pattern
+-- f gives the window's symbol for the pattern's at every position, and different symbols for different symbols of the
+-- pattern
 pub record Maps (m w : ℕ → ℕ) (n : ℕ) (f : ℕ → ℕ) : Type 0 where
   pub carries : (p : ℕ) → p < n → f (m p) ≡ w p
   pub one-to-one : (p q : ℕ) → p < n → q < n → f (m p) ≡ f (m q) → m p ≡ m q

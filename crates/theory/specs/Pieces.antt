@@ -1,4 +1,5 @@
--- A buffer while pieces of bytes are written into it one after another: what is written and what is left to write give the whole.
+-- A buffer while pieces of bytes are written into it one after another: what is written and what is left to write give
+-- the whole.
 -- Assumes nothing.
 use mathlib.Core.Path.{_≡_, refl, sym, _∙_, ap}
 use mathlib.Core.List.{List, [], _++_, append-nil}
@@ -19,7 +20,8 @@ pub written-none : (l : List ℕ) (at : ℕ) → written l at [] ≡ l
 unfolding written
 written-none l at = rw (add-zero at, append-nil (take at l)) (take-append-drop at l)
 
-pub left-all : (l : List ℕ) (at : ℕ) (bytes : List ℕ) → at + length bytes ≤ length l → Left (written l at bytes) (at + length bytes) l at bytes
+pub left-all : (l : List ℕ) (at : ℕ) (bytes : List ℕ) → at + length bytes ≤ length l
+    → Left (written l at bytes) (at + length bytes) l at bytes
 left-all l at bytes h = record { whole-is = refl; stop-is = refl; room = h }
 
 module _ {whole : List ℕ} {stop : ℕ} (l : List ℕ) (at : ℕ) (bytes : List ℕ) (h : Left whole stop l at bytes) where
@@ -36,10 +38,13 @@ module _ {whole : List ℕ} {stop : ℕ} (l : List ℕ) (at : ℕ) (bytes : List
     left-room = omega (arith, longer, h .stop-is, h .room)
 
     -- and when it is written, less is left
-    pub left-less : (new : List ℕ) (next : ℕ) → new ≡ written l at xs → next ≡ at + length xs → Left whole stop new next ys
+    pub left-less : (new : List ℕ) (next : ℕ) → new ≡ written l at xs → next ≡ at + length xs
+        → Left whole stop new next ys
     left-less new next n k =
         record {
-          whole-is = h .whole-is ∙ ap (written l at) e ∙ sym (written-append l at xs ys (omega (arith, left-room))) ∙ rw (n, k);
+          whole-is =
+              h .whole-is ∙ ap (written l at) e ∙ sym (written-append l at xs ys (omega (arith, left-room)))
+              ∙ rw (n, k);
           stop-is = omega (arith, longer, h .stop-is);
           room = omega (arith, ap length n, length-written l at xs left-room, h .room);
         }
@@ -61,5 +66,6 @@ module _ (l : List ℕ) (at : ℕ) (xs ys both : List ℕ) (e : both ≡ xs ++ y
     pub second-room : next + length ys ≤ length new
     second-room = omega (arith, second .stop-is, second .room)
 
-    pub both-written : (last : List ℕ) (stop : ℕ) → last ≡ written new next ys → stop ≡ next + length ys → (stop ≡ at + length both) × (last ≡ written l at both)
+    pub both-written : (last : List ℕ) (stop : ℕ) → last ≡ written new next ys → stop ≡ next + length ys
+        → (stop ≡ at + length both) × (last ≡ written l at both)
     both-written last stop a b = (b ∙ sym (second .stop-is), a ∙ sym (second .whole-is))

@@ -1,6 +1,6 @@
 -- Bytes written into a buffer at a place.
--- Laws of `written`: a run of stores is one piece of bytes written, and two pieces one after the other are one piece. So a function that
--- stores a record's bytes one by one has written its bytes.
+-- Laws of `written`: a run of stores is one piece of bytes written, and two pieces one after the other are one piece.
+-- So a function that stores a record's bytes one by one has written its bytes.
 -- Assumes nothing.
 use mathlib.Core.Path.{_≡_, sym, _∙_, ap}
 use mathlib.Core.List.{List, [], _∷_, _++_, append-nil, append-assoc}
@@ -23,7 +23,8 @@ drop-past : (p q : List ℕ) (n k : ℕ) → length p ≡ n → drop (n + k) (p 
 drop-past p q n k e = rw (← e) (drop-append-add p q k)
 
 -- bytes replace bytes: the buffer stays as long
-pub length-written : (l : List ℕ) (at : ℕ) (xs : List ℕ) → at + length xs ≤ length l → length (written l at xs) ≡ length l
+pub length-written : (l : List ℕ) (at : ℕ) (xs : List ℕ) → at + length xs ≤ length l
+    → length (written l at xs) ≡ length l
 unfolding written
 length-written l at xs h =
     let start : at ≤ length l = omega arith in
@@ -59,8 +60,8 @@ written-snoc l at xs a h =
 
 -- ---- a run of stores
 
--- bytes stored one by one, the first of them k places behind `at`. On bytes that are written out it computes to the stores themselves,
--- `set (set l (at + 1) a) (at + 2) b ..`, which is what straight-line code leaves.
+-- bytes stored one by one, the first of them k places behind `at`. On bytes that are written out it computes to the
+-- stores themselves, `set (set l (at + 1) a) (at + 2) b ..`, which is what straight-line code leaves.
 abbrev pub storesAt : List ℕ → ℕ → ℕ → List ℕ → List ℕ
 storesAt l at k [] = l
 storesAt l at k (a ∷ xs) = storesAt (set l (at + k) a) at (suc k) xs
@@ -81,4 +82,5 @@ stores-behind (a ∷ xs) done l at h =
 pub stores-written : (l : List ℕ) (at a : ℕ) (xs : List ℕ) → at + suc (length xs) ≤ length l
     → storesAt (set l at a) at 1 xs ≡ written l at (a ∷ xs)
 stores-written l at a xs h =
-    ap (λ (r : List ℕ). storesAt r at 1 xs) (written-set l at a (omega arith)) ∙ stores-behind xs (a ∷ []) l at (omega arith)
+    ap (λ (r : List ℕ). storesAt r at 1 xs) (written-set l at a (omega arith))
+    ∙ stores-behind xs (a ∷ []) l at (omega arith)

@@ -5,5 +5,5 @@ use mathlib.Core.List.{List}
 use Rattle.mapping.specs.declared.bijections.Bijection.{Bijection}
 
 -- the bijection that has these columns
-abbrev pub bijectionIn : List ℕ → List ℕ → Bijection
-bijectionIn forward backward = record { forward = forward; backward = backward }
+abbrev pub fromColumns : List ℕ → List ℕ → Bijection
+fromColumns forward backward = record { forward = forward; backward = backward }

@@ -1,7 +1,6 @@
-pub mod Beside
 pub mod Bijections
-pub mod Checking
 pub mod Compare
 pub mod Reader
-pub mod Searching
+pub mod Returned
 pub mod Symbols
+pub mod Theorems

@@ -2,14 +2,14 @@
 ghost use mathlib.Core.Path.{_≡_};
 ghost use Rattle.shapes.specs.Said.{saidNumber};
 ghost use Rattle.mapping.specs.Bijections.{renamed};
-ghost use Rattle.values.specs.Bijections.{bijectionIn};
+ghost use Rattle.values.specs.Bijections.{fromColumns};
 use mapping::bijections::Bijection;
 use mapping::bijections::BijectionAnswer;
 use shapes::refusals::outcome_number;
 
 // The bijection that two columns hold.
 pub fn bijection_in(forward: &[u16; 256], backward: &[u16; 256]) -> Bijection
-    ensures { λ r. ⌜ r ≡ bijectionIn (now (forward .entry)) (now (backward .entry)) ⌝ }
+    ensures { λ r. ⌜ r ≡ fromColumns (now (forward .entry)) (now (backward .entry)) ⌝ }
 {
     Bijection {
         forward: *forward,
@@ -19,7 +19,7 @@ pub fn bijection_in(forward: &[u16; 256], backward: &[u16; 256]) -> Bijection
 
 // Writes a bijection's columns.
 pub fn write_columns(b: Bijection, forward: &mut [u16; 256], backward: &mut [u16; 256])
-    ensures { λ r. ⌜ bijectionIn (now (forward .exit)) (now (backward .exit)) ≡ b ⌝ }
+    ensures { λ r. ⌜ fromColumns (now (forward .exit)) (now (backward .exit)) ≡ b ⌝ }
 {
     let f = b.forward;
     let g = b.backward;
@@ -34,7 +34,7 @@ pub fn write_answer(
     backward: &mut [u16; 256],
 ) -> u8
     ensures { λ r. ⌜ r ≡ saidNumber (renamed answer .said) ⌝ }
-    ensures { λ r. ⌜ bijectionIn (now (forward .exit)) (now (backward .exit)) ≡ renamed answer .bijection ⌝ }
+    ensures { λ r. ⌜ fromColumns (now (forward .exit)) (now (backward .exit)) ≡ renamed answer .bijection ⌝ }
 {
     let b = answer.bijection;
     let outcome = answer.outcome;

@@ -1,13 +1,10 @@
 // What the check answers, in numbers.
 ghost use mathlib.Core.Path.{_≡_};
-ghost use Rattle.shapes.specs.Refusals.{valuesOf};
 ghost use Rattle.shapes.specs.Said.{saidNumber};
 ghost use Rattle.verify.specs.Check.{checkedSaid};
-ghost use Rattle.values.specs.Checking.{placeBeside, countsBy};
-use crate::beside::Value;
-use crate::beside::value_beside;
-use shapes::refusals::Refusal;
+ghost use Rattle.values.specs.Returned.{valuesBy};
 use shapes::refusals::refusal_number;
+use shapes::refusals::value_or;
 use verify::check::Checked;
 
 // The number of an answer.
@@ -23,23 +20,16 @@ pub fn checked_number(answer: Checked) -> u8
     }
 }
 
-// What a refusal leaves in the totals: the place of the bad record and a zero, or else what stood there.
-pub fn place_beside(why: Refusal, old: [usize; 2]) -> [usize; 2]
-    ensures { λ r. ⌜ r ≡ placeBeside (valuesOf why) old ⌝ }
-{
-    let value = value_beside(why);
-    match value {
-        Value::Nothing => old,
-        Value::Number(at) => [at, 0],
-    }
-}
-
-// The totals of an answer: found and refused.
+// The totals after an answer: found and refused, or what a refusal returns in the first of them.
 pub fn checked_totals(answer: Checked, old: [usize; 2]) -> [usize; 2]
-    ensures { λ r. ⌜ r ≡ countsBy (checkedSaid answer) old ⌝ }
+    ensures { λ r. ⌜ r ≡ valuesBy 0 (checkedSaid answer) old ⌝ }
 {
     match answer {
         Checked::Kept { found, refused } => [found as usize, refused as usize],
-        Checked::Refused(why) => place_beside(why, old),
+        Checked::Refused(why) => {
+            let mut totals = old;
+            totals[0] = value_or(why, old[0]);
+            totals
+        }
     }
 }

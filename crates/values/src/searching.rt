@@ -1,15 +1,11 @@
 // What the search answers, in numbers.
 ghost use mathlib.Core.Path.{_≡_};
-ghost use lib.ListN.{length};
-ghost use Rattle.shapes.specs.Refusals.{valuesOf};
 ghost use Rattle.shapes.specs.Said.{saidNumber};
 ghost use Rattle.search.specs.Search.{searchedSaid};
-ghost use Rattle.values.specs.Searching.{totalsBeside, totalsBy};
-use crate::beside::Value;
-use crate::beside::value_beside;
+ghost use Rattle.values.specs.Returned.{valuesBy};
 use search::search::Searched;
-use shapes::refusals::Refusal;
 use shapes::refusals::refusal_number;
+use shapes::refusals::value_or;
 
 // The number of an answer.
 pub fn searched_number(answer: Searched) -> u8
@@ -25,20 +21,9 @@ pub fn searched_number(answer: Searched) -> u8
     }
 }
 
-// What a refusal leaves in the totals: the length needed behind two zeros, or else what stood there.
-pub fn totals_beside(why: Refusal, old: [usize; 3]) -> [usize; 3]
-    ensures { λ r. ⌜ r ≡ totalsBeside (valuesOf why) old ⌝ }
-{
-    let value = value_beside(why);
-    match value {
-        Value::Nothing => old,
-        Value::Number(needed) => [0, 0, needed],
-    }
-}
-
-// The totals of an answer: found, refused and the length.
-pub fn totals_in(answer: Searched, old: [usize; 3]) -> [usize; 3]
-    ensures { λ r. ⌜ r ≡ totalsBy (searchedSaid answer) old ⌝ }
+// The totals after an answer: found, refused and the length, or what a refusal returns in the last of them.
+pub fn searched_totals(answer: Searched, old: [usize; 3]) -> [usize; 3]
+    ensures { λ r. ⌜ r ≡ valuesBy 2 (searchedSaid answer) old ⌝ }
 {
     match answer {
         Searched::Listed {
@@ -46,6 +31,10 @@ pub fn totals_in(answer: Searched, old: [usize; 3]) -> [usize; 3]
             refused,
             length,
         } => [found as usize, refused as usize, length],
-        Searched::Refused(why) => totals_beside(why, old),
+        Searched::Refused(why) => {
+            let mut totals = old;
+            totals[2] = value_or(why, old[2]);
+            totals
+        }
     }
 }

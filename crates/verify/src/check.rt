@@ -1,12 +1,12 @@
-// Document 01's check of a listing: every window in order, found with its pairs or refused with two cells that spoil it, then the closing, then the end.
+// Document 01's check of a listing: every window in order, found with its pairs or refused with two cells that spoil
+// it, then the closing, then the end.
 ghost use mathlib.Core.Path.{_≡_};
 ghost use Rattle.theory.specs.Bytes.{Bytes};
 ghost use Rattle.shapes.specs.Questions.{Posed, ask, asked};
 ghost use Rattle.verify.specs.Check.{closingFrom, checkedSaid, listingSaid, checkOf};
-ghost use Rattle.claims.specs.Passages.{courseOf};
 use crate::windows::Walked;
 use crate::windows::read_windows;
-use claims::passages::Passage;
+use claims::walks::Walk;
 use listing::reader::Cursor;
 use listing::reader::Read;
 use listing::records::Record;
@@ -23,31 +23,31 @@ pub enum Checked {
 }
 
 // The closing at a place, with these counts, and behind it the end.
-fn read_closing(listing: &[u8], found: u16, refused: u16, at: usize) -> Passage
-    ensures { λ r. ⌜ courseOf r ≡ closingFrom (now (listing .entry)) found refused at ⌝ }
+fn read_closing(listing: &[u8], found: u16, refused: u16, at: usize) -> Walk
+    ensures { λ r. ⌜ r ≡ closingFrom (now (listing .entry)) found refused at ⌝ }
 {
     let cursor = Cursor { at };
     let Read::Whole(item, next) = cursor.read(listing) else {
-        return Passage::Stopped(Refusal::ListingForm(at));
+        return Walk::Stops(Refusal::ListingForm(at));
     };
     let Record::Closing {
         found: a,
         refused: b,
     } = item
     else {
-        return Passage::Stopped(Refusal::ListingForm(at));
+        return Walk::Stops(Refusal::ListingForm(at));
     };
     if a != found {
-        return Passage::Stopped(Refusal::ListingFalse(at));
+        return Walk::Stops(Refusal::ListingFalse(at));
     }
     if b != refused {
-        return Passage::Stopped(Refusal::ListingFalse(at));
+        return Walk::Stops(Refusal::ListingFalse(at));
     }
     let end = next.at;
     if end != listing.len() {
-        return Passage::Stopped(Refusal::ListingForm(end));
+        return Walk::Stops(Refusal::ListingForm(end));
     }
-    Passage::Passed(end)
+    Walk::Goes(end)
 }
 
 // The check where sides and cells are good.
@@ -64,15 +64,16 @@ fn check_listing(text: &[u8], pattern: &[u8], s: Shape, listing: &[u8]) -> Check
             let refused = (windows - found as usize) as u16;
             let last = read_closing(listing, found, refused, at);
             match last {
-                Passage::Stopped(why) => Checked::Refused(why),
-                Passage::Passed(_) => Checked::Kept { found, refused },
+                Walk::Stops(why) => Checked::Refused(why),
+                Walk::Goes(_) => Checked::Kept { found, refused },
             }
         }
     }
 }
 
-// Checks a listing for a text and a pattern. Refused by 2, 3, 4, then by 6 or 7 with the place of the first bad record. That text, pattern and listing are bytes,
-// which their types say, is ensured too, so that demand 3 needs nothing but what stands here.
+// Checks a listing for a text and a pattern. Refused by 2, 3, 4, then by 6 or 7 with the place of the first bad record.
+// That text, pattern and listing are bytes, which their types say, is ensured too, so that demand 3 needs nothing but
+// what stands here.
 pub fn check(
     text: &[u8],
     rows: usize,

@@ -6,19 +6,20 @@ ghost use lib.ListN.{length};
 ghost use Rattle.theory.specs.Older.{Older};
 ghost use Rattle.theory.specs.Test.{both};
 ghost use Rattle.sets.specs.Symbols.{symbolsOf};
-ghost use Rattle.sets.specs.Repeats.{RowsRepeat};
-ghost use Rattle.matching.specs.Compare.{cellsOf, Placed};
+ghost use Rattle.matching.specs.Compare.{cellCount, Placed};
 ghost use Rattle.shapes.specs.declared.refusals.Refusal.the-variants.{ListingFalse};
-ghost use Rattle.claims.specs.Claims.{goes, orStop};
+ghost use Rattle.claims.specs.Claims.{orStop};
+ghost use Rattle.claims.specs.declared.walks.Walk.the-variants.{Goes};
 ghost use Rattle.verify.specs.Check.{rightMismatch, entryFrom};
-ghost use Rattle.claims.specs.Passages.{courseOf, MismatchAt};
+ghost use Rattle.claims.specs.Walks.{MismatchAt};
+ghost use Rattle.claims.specs.Inheritance.{Above};
 use claims::mismatches::true_mismatch;
 use claims::pairs::found_pairs;
-use claims::passages::Passage;
+use claims::walks::Walk;
 use listing::reader::Cursor;
 use listing::reader::Read;
+use listing::records::MismatchBody;
 use listing::records::Record;
-use listing::records::Spoiled;
 use shapes::refusals::Refusal;
 use shapes::windows::WindowPlace;
 
@@ -35,23 +36,23 @@ fn refused_window(
     v: WindowPlace,
     pattern: &[u8],
     alike_in_pattern: bool,
-    body: Spoiled,
+    body: MismatchBody,
     listing: &[u8],
     at: usize,
     next: usize,
-) -> Passage
-    requires { ⌜ Placed (now text) v × (length (now pattern) ≡ cellsOf v) × MismatchAt body (now listing) at ⌝ }
+) -> Walk
+    requires { ⌜ Placed (now text) v × (length (now pattern) ≡ cellCount v) × MismatchAt body (now listing) at ⌝ }
     ensures { λ r. ⌜
-        courseOf r ≡ orStop (rightMismatch «alike_in_pattern» (now (text .entry)) (now (pattern .entry)) v
-        (now (listing .entry)) at) (ListingFalse at) (goes next) ⌝ }
+        r ≡ orStop (rightMismatch «alike_in_pattern» (now (text .entry)) (now (pattern .entry)) v
+        (now (listing .entry)) at) (ListingFalse at) (Goes next) ⌝ }
 {
     if !is_due(v, body.window.row, body.window.column) {
-        return Passage::Stopped(Refusal::ListingFalse(at));
+        return Walk::Stops(Refusal::ListingFalse(at));
     }
     if !true_mismatch(text, v, pattern, alike_in_pattern, body.earlier, body.later) {
-        return Passage::Stopped(Refusal::ListingFalse(at));
+        return Walk::Stops(Refusal::ListingFalse(at));
     }
-    Passage::Passed(next)
+    Walk::Goes(next)
 }
 
 // The records at a place, for the window v.
@@ -60,39 +61,47 @@ pub fn read_entry(
     v: WindowPlace,
     pattern: &[u8],
     symbols: &[u8],
-    period: usize,
     base: u32,
     images: &mut [u32; 256],
     given: &mut [u32; 256],
+    first: &mut [usize; 256],
+    selves: &mut [usize; 256],
+    tops: &mut [usize; 256],
     listing: &[u8],
     at: usize,
-) -> Passage
+) -> Walk
     requires { ⌜
-        Placed (now text) v × (length (now pattern) ≡ cellsOf v) × (now symbols ≡ symbolsOf (now pattern))
+        Placed (now text) v × (length (now pattern) ≡ cellCount v) × (now symbols ≡ symbolsOf (now pattern))
         × (length (now images) ≡ 256) × Older base (now given) × (base ≤ 16777216)
-        × RowsRepeat (now pattern) (v .width) period ⌝ }
-    ensures { λ r. ⌜ courseOf r ≡ entryFrom (now (text .entry)) (now (pattern .entry)) v (now (listing .entry)) at ⌝ }
+        × Above (now text) (now pattern) (v .columns) (v .height) (v .width) (now first) (now selves) (now tops) ⌝ }
+    ensures { λ r. ⌜ r ≡ entryFrom (now (text .entry)) (now (pattern .entry)) v (now (listing .entry)) at ⌝ }
     ensures { λ r. ⌜ Older (base + 256) (now (given .exit)) ⌝ }
     ensures { λ r. ⌜ length (now (images .exit)) ≡ 256 ⌝ }
+    ensures { λ r. ⌜
+        Above (now (text .entry)) (now (pattern .entry)) (v .columns) (v .height) (v .width) (now (first .exit))
+        (now (selves .exit)) (now (tops .exit)) ⌝ }
 {
     let cursor = Cursor { at };
     let Read::Whole(item, next) = cursor.read(listing) else {
-        return Passage::Stopped(Refusal::ListingForm(at));
+        return Walk::Stops(Refusal::ListingForm(at));
     };
+    let other = Walk::Stops(Refusal::ListingForm(at));
     match item {
         Record::Found { row, column } => {
             if !is_due(v, row, column) {
-                return Passage::Stopped(Refusal::ListingFalse(at));
+                return Walk::Stops(Refusal::ListingFalse(at));
             }
             found_pairs(
                 text,
                 v,
                 pattern,
                 symbols,
-                period,
                 base,
                 images,
                 given,
+                first,
+                selves,
+                tops,
                 listing,
                 next.at,
             )
@@ -106,10 +115,10 @@ pub fn read_entry(
         Record::Pair {
             pattern: _,
             text: _,
-        } => Passage::Stopped(Refusal::ListingForm(at)),
+        } => other,
         Record::Closing {
             found: _,
             refused: _,
-        } => Passage::Stopped(Refusal::ListingForm(at)),
+        } => other,
     }
 }

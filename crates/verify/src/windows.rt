@@ -2,42 +2,30 @@
 ghost use mathlib.Core.Path.{_≡_};
 ghost use Prim.Native.Nat.{_+_, _*_, _<_};
 ghost use lib.Dec.{eqb};
-ghost use lib.ListN.{length, replicate};
+ghost use lib.ListN.{length};
 ghost use Rattle.theory.specs.Older.{Older};
 ghost use Rattle.theory.specs.Test.{pick};
 ghost use Rattle.shapes.specs.Shapes.{ShapeOf};
 ghost use Rattle.shapes.specs.Questions.{asked};
 ghost use Rattle.sets.specs.Symbols.{symbolsOf};
-ghost use Rattle.sets.specs.Repeats.{RowsRepeat};
+ghost use Rattle.claims.specs.Inheritance.{Above};
 ghost use Rattle.verify.specs.Windows.{WindowsWalked};
 use crate::entries::read_entry;
-use claims::passages::Passage;
+use claims::walks::Walk;
 use matching::windows::next_window;
-use sets::repeats::row_period;
+use reach::places::no_positions;
 use sets::symbols::list_symbols;
 use sets::symbols::symbols_of;
 use shapes::refusals::Refusal;
 use shapes::shapes::Shape;
+use shapes::tables::no_entries;
+use shapes::tables::no_symbols;
 use shapes::windows::WindowPlace;
 
 // Where the windows end, and how many of them stand as found; or the first bad record.
 pub enum Walked {
     Passed { at: usize, found: u16 },
     Stopped(Refusal),
-}
-
-// A list before any symbol is in it.
-fn no_symbols() -> [u8; 256]
-    ensures { λ r. ⌜ r ≡ replicate 256 0 ⌝ }
-{
-    [0u8; 256]
-}
-
-// A column without entries.
-fn no_entries() -> [u32; 256]
-    ensures { λ r. ⌜ r ≡ replicate 256 0 ⌝ }
-{
-    [0u32; 256]
 }
 
 // The windows found so far, and one more where a found record stands.
@@ -57,15 +45,17 @@ fn walk_windows(
     pattern: &[u8],
     s: Shape,
     symbols: &[u8],
-    period: usize,
     images: &mut [u32; 256],
     given: &mut [u32; 256],
+    first: &mut [usize; 256],
+    selves: &mut [usize; 256],
+    tops: &mut [usize; 256],
     listing: &[u8],
 ) -> Walked
     requires { ⌜
         ShapeOf s (length (now text)) × (length (now pattern) ≡ s .height * s .width)
         × (now symbols ≡ symbolsOf (now pattern)) × (length (now images) ≡ 256) × Older 256 (now given)
-        × RowsRepeat (now pattern) (s .width) period ⌝ }
+        × Above (now text) (now pattern) (s .columns) (s .height) (s .width) (now first) (now selves) (now tops) ⌝ }
     ensures { λ r. ⌜ WindowsWalked (asked (now (text .entry)) (now (pattern .entry)) s) (now (listing .entry)) r ⌝ }
 {
     let across = s.columns + 1 - s.width;
@@ -87,18 +77,20 @@ fn walk_windows(
             v,
             pattern,
             symbols,
-            period,
             base,
             images,
             given,
+            first,
+            selves,
+            tops,
             listing,
             at,
         );
         match step {
-            Passage::Stopped(why) => {
+            Walk::Stops(why) => {
                 return Walked::Stopped(why);
             }
-            Passage::Passed(next) => {
+            Walk::Goes(next) => {
                 found = count_found(found, listing[at]);
                 at = next;
             }
@@ -110,8 +102,8 @@ fn walk_windows(
     Walked::Passed { at, found }
 }
 
-// The records of every window, from the listing's first byte. The pattern's symbols are listed once, and after how many rows it repeats is
-// found once, and not again for each window.
+// The records of every window, from the listing's first byte. The pattern's symbols are listed once, and not again for
+// each window; nothing else is prepared before a found record asks for it.
 pub fn read_windows(text: &[u8], pattern: &[u8], s: Shape, listing: &[u8]) -> Walked
     requires { ⌜ ShapeOf s (length (now text)) × (length (now pattern) ≡ s .height * s .width) ⌝ }
     ensures { λ r. ⌜ WindowsWalked (asked (now (text .entry)) (now (pattern .entry)) s) (now (listing .entry)) r ⌝ }
@@ -119,17 +111,21 @@ pub fn read_windows(text: &[u8], pattern: &[u8], s: Shape, listing: &[u8]) -> Wa
     let set = symbols_of(pattern);
     let mut listed = no_symbols();
     let d = list_symbols(set, &mut listed);
-    let period = row_period(pattern, s.height, s.width);
     let mut images = no_entries();
     let mut given = no_entries();
+    let mut first = no_positions();
+    let mut selves = no_positions();
+    let mut tops = no_positions();
     walk_windows(
         text,
         pattern,
         s,
         &listed[..d],
-        period,
         &mut images,
         &mut given,
+        &mut first,
+        &mut selves,
+        &mut tops,
         listing,
     )
 }

@@ -1,10 +1,10 @@
--- What the walks of this crate share. The view's type is B, and a slice's is S, at the lifetime of a signature that has one.
---     Small            what the numbers of a read need: each fits its type
---     slice-beside     what a slice owns is what the slice and five numbers own: numbers own nothing
---     view-beside      the same of a view and two numbers
---     view-apart       what a view and two numbers own gives what its slice and five numbers own, and the view stays whole: it is Copy
---     Made, made-asks, made-says      the call of `window_view`: what it makes, what it is given of a slice that is kept, and what it says
--- The laws take `Given`, as every walk does. Why they hold: a number owns nothing but the fact that it fits, and slices and views are Copy.
+-- What the walks of this crate share. The view's type is B, and a slice's is S, at the lifetime of a signature that has
+-- one. Small what the numbers of a read need: each fits its type slice-beside what a slice owns is what the slice and
+-- five numbers own: numbers own nothing view-beside the same of a view and two numbers view-apart what a view and two
+-- numbers own gives what its slice and five numbers own, and the view stays whole: it is Copy Made, made-asks,
+-- made-says the call of `window_view`: what it makes, what it is given of a slice that is kept, and what it says The
+-- laws take `Given`, as every walk does. Why they hold: a number owns nothing but the fact that it fits, and slices and
+-- views are Copy.
 -- Assumes nothing.
 use mathlib.Core.Path.{_≡_, refl}
 use Prim.Native.Nat.{ℕ, _<_, _^_}
@@ -21,7 +21,8 @@ use prog.Wp.{Heap}
 use ghost.Atoms.{Atoms, sem}
 use contract.Lifetimes.{Lfts}
 use contract.Monad.{Fun, fact}
-use types.Kit.{Given, ‵, raw, _⊛_, given, ⋆, _$_, _∵_, !, qed, move, drop, use1, use2, split, join, learn, fsplit, fjoin, frame, done}
+use types.Kit.{Given, ‵, raw, _⊛_, given, ⋆, _$_, _∵_, !, qed, move, drop, use1, use2, split, join, learn, fsplit}
+use types.Kit.{fjoin, frame, done}
 use denote.RattleType.{RattleType, owns}
 use denote.Laws.{Is}
 use denote.Plain.{uint-makes}

@@ -1,4 +1,5 @@
--- What of a window lies in the text: one row, one cell. A read asks this of what it reads and of nothing else of the window.
+-- What of a window lies in the text: one row, one cell. A read asks this of what it reads and of nothing else of the
+-- window.
 -- Assumes nothing.
 use mathlib.Core.List.{List}
 use Prim.Native.Nat.{ℕ, _+_, _*_, _/_, _%_, _≤_, _<_}

@@ -1,12 +1,14 @@
-// A window of a text is read in place, through a view: the text's slice, its row width and the window's corner. Nothing is copied.
-// Three layers. The work is done by functions of a slice and numbers. Above them stand thin functions over the view; a struct that holds a slice is
-// proved by a walk of its code, so they are few and short. Above these stand functions with plain parameters, so that no caller needs a walk.
+// A window of a text is read in place, through a view: the text's slice, its row width and the window's corner. Nothing
+// is copied. Three layers. The work is done by functions of a slice and numbers. Above them stand thin functions over
+// the view; a struct that holds a slice is proved by a walk of its code, so they are few and short. Above these stand
+// functions with plain parameters, so that no caller needs a walk.
 ghost use mathlib.Core.Path.{_≡_};
 ghost use Prim.Native.Nat.{_+_};
 ghost use Rattle.shapes.specs.Windows.{rowCells, windowAt};
 ghost use Rattle.view.specs.Inside.{RowInside, CellInside};
 
-// Where a window of a text is read: its rows are parts of the text, columns apart, and the first one begins at the corner.
+// Where a window of a text is read: its rows are parts of the text, columns apart, and the first one begins at the
+// corner.
 pub struct WindowView<'a> {
     pub text: &'a [u8],
     pub columns: usize,

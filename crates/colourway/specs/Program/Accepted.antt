@@ -1,135 +1,47 @@
--- The refusals of an input in their order: which number it has where a test fails and the earlier ones pass, and what an input has that is not refused.
--- Why it holds: each test says what it tests (`Tested`), and the chain asks one after the other.
+-- Where the program itself refuses nothing, the search's own refusals decide: its buffers are long enough for every
+-- input, so that of those 11 alone can occur.
 -- Assumes nothing.
-use mathlib.Core.Path.{_≡_, sym, _∙_, ap}
-use mathlib.Core.Bool.{Bool}
+use mathlib.Core.Path.{_≡_}
 use mathlib.Core.List.{List, [], _∷_}
-use Prim.Native.Nat.{ℕ, _+_, _-_, _*_, _≤_, _<_}
+use Prim.Native.Nat.{ℕ, _+_, _-_, _≤_, _<_}
 use native.Mathlib.Omega.{arith}
-use lib.Dec.{eqb, leb}
-use lib.ListN.{length, take, drop, length-take, length-drop}
-use borrow.Author.Tests.{le-leb, lt-leb}
-use Rattle.theory.specs.Test.{both, Tested, tested-iff, tested-same, le-tested, eq-tested, both-tested, says-true, is-true, is-false}
-use Rattle.shapes.specs.Said.{Said, accepts, refuses, _then_, check, check-both, check-accepts, check-refuses, check-true, check-passed, then-both, then-assoc}
-use Rattle.shapes.specs.Questions.{gridGood, sidesOf, gridSaid, cellsSaid, sidesSaid, sizeSaid, sides-passed, sides-pass, size-passed, size-pass}
-use Rattle.shapes.specs.Shapes.{good-cells, corners, windows, product-le}
-use Rattle.shapes.specs.declared.shapes.Shape.{Shape}
+use Rattle.shapes.specs.Said.{accepts, refuses}
+use Rattle.shapes.specs.Said.Laws.{then-both}
+use Rattle.shapes.specs.Shapes.{corners, windows}
+use Rattle.shapes.specs.Shapes.Laws.{product-le}
 use Rattle.flags.specs.Flags.{rooms, RoomFor}
-use Rattle.search.specs.Listing.{foundIn, refusedIn, neededLength}
+use Rattle.writer.specs.Listing.{foundIn, refusedIn, neededLength}
 use Rattle.search.specs.Search.{searchSaid}
 use Rattle.search.specs.Search.Accepted.{search-accepted, search-short, search-passed}
-use Rattle.colourway.specs.Program.{rowsIn, columnsIn, heightIn, widthIn, textIn, patternIn, questionIn, fewCells, inputSaid, ownSaid, programSaid, Right, countSaid, sizesSaid}
+use Rattle.input.specs.Input.Accepted.{text-length, pattern-length, input-passes, input-passed}
+use Rattle.input.specs.Input.{rowsIn, columnsIn, heightIn, widthIn, questionIn, inputSaid, RightInput}
+use Rattle.colourway.specs.Program.{ownSaid, programSaid}
 
--- ---- the tests
-
-module _ (input : List ℕ) where
-  abbrev cells : ℕ
-  cells = rowsIn input * columnsIn input
-
-  abbrev patternCells : ℕ
-  patternCells = heightIn input * widthIn input
-
-  abbrev sides : Shape
-  sides = sidesOf (questionIn input)
-
-  abbrev rightCells : Bool
-  rightCells = both (gridGood (questionIn input .text)) (gridGood (questionIn input .pattern))
-
-  -- 3 of the text, then of the pattern, is one test
-  cells-right : cellsSaid (questionIn input) ≡ check rightCells 3
-  unfolding cellsSaid gridSaid
-  cells-right = check-both (gridGood (questionIn input .text)) (gridGood (questionIn input .pattern)) 3
-
-  pub few-tested : Tested ((cells ≤ 16384) × (patternCells ≤ 16384)) (fewCells cells patternCells)
-  few-tested = both-tested (le-tested cells 16384) (le-tested patternCells 16384)
-
-  -- the text has its cells and the pattern has its cells exactly if the input has as many bytes as the sizes say, and nothing after
-  pub cells-tested : 4 ≤ length input → Tested (length input ≡ 4 + cells + patternCells) rightCells
-  unfolding textIn patternIn
-  cells-tested h =
-      tested-iff
-      (λ e. omega (arith, e .0, e .1, length-take cells (drop 4 input), length-drop 4 input, length-drop (4 + cells) input))
-      (λ e. (omega (arith, e, length-take cells (drop 4 input), length-drop 4 input), omega (arith, e, length-drop (4 + cells) input)))
-      (both-tested (good-cells (length (take cells (drop 4 input))) (rowsIn input) (columnsIn input)) (good-cells (length (drop (4 + cells) input)) (heightIn input) (widthIn input)))
-
-  -- ---- the chain
-
-  -- 3 where the number of bytes is another one
-  pub cells-wrong : 4 ≤ length input → (length input ≡ 4 + cells + patternCells → ⊥) → cellsSaid (questionIn input) ≡ refuses 3 []
-  cells-wrong h n = cells-right ∙ sym (check-refuses rightCells 3 [] (is-false (cells-tested h) n))
-
-  -- what accepts passed every test
-  pub input-passed : (values : List ℕ) → inputSaid input ≡ accepts values → Right input
-  unfolding inputSaid
-  input-passed values e =
-      let a = check-passed (leb 4 (length input)) 1 [] (sidesSaid sides then check (fewCells cells patternCells) 8 then cellsSaid (questionIn input) then sizeSaid sides) values e in
-      let b = then-both (sidesSaid sides) (check (fewCells cells patternCells) 8 then cellsSaid (questionIn input) then sizeSaid sides) values (a .1) in
-      let c = check-passed (fewCells cells patternCells) 8 [] (cellsSaid (questionIn input) then sizeSaid sides) values (b .1) in
-      let d = then-both (cellsSaid (questionIn input)) (sizeSaid sides) values (c .1) in
-      let few = says-true few-tested (c .0) in
-      record {
-        sized = record { sides = sides-passed sides (b .0 .0) (b .0 .1); fitting = size-passed sides values (d .1) };
-        text-few = few .0;
-        pattern-few = few .1;
-        length-is = says-true (cells-tested (says-true (le-tested 4 (length input)) (a .0))) (check-true rightCells 3 [] (d .0 .0) (sym cells-right ∙ d .0 .1));
-      }
-
-  -- and what is right accepts
-  pub input-passes : Right input → inputSaid input ≡ accepts []
-  unfolding inputSaid
-  input-passes r =
-      let long : 4 ≤ length input = omega (arith, r .length-is) in
-      let same : cellsSaid (questionIn input) ≡ accepts [] = cells-right ∙ sym (check-accepts rightCells 3 [] (is-true (cells-tested long) (r .length-is))) in
-      rw (
-        is-true (le-tested 4 (length input)) long,
-        sides-pass sides (r .sized .sides),
-        is-true few-tested (r .text-few, r .pattern-few),
-        same,
-      )
-      (size-pass sides (r .sized .fitting))
-
-  -- ---- by the sides
-
-  -- fewer than four bytes
-  pub sizes-missing : length input < 4 → refuses 1 [] ≡ inputSaid input
-  unfolding inputSaid
-  sizes-missing h = rw (lt-leb 4 (length input) h)
-
-  -- else the sides and the number of bytes behind them decide
-  pub by-sizes : 4 ≤ length input → sizesSaid sides (length input - 4) ≡ inputSaid input
-  unfolding inputSaid sizesSaid countSaid
-  by-sizes h =
-      let same : eqb (length input - 4) (cells + patternCells) ≡ rightCells =
-      tested-same
-      (tested-iff (λ e. omega (arith, e)) (λ e. omega (arith, e)) (eq-tested (length input - 4) (cells + patternCells)))
-      (cells-tested h) in
-      rw (le-leb 4 (length input) h, cells-right, same)
-      (ap (λ (x : Said). sidesSaid sides then x) (then-assoc (check (fewCells cells patternCells) 8) (check rightCells 3) (sizeSaid sides)))
-
--- ---- the search's own
-
-module _ (input : List ℕ) (r : Right input) where
-  -- the lengths of text and pattern
-  pub text-length : length (textIn input) ≡ cells input
-  unfolding textIn
-  text-length = omega (arith, r .length-is, length-take (cells input) (drop 4 input), length-drop 4 input)
-
-  pub pattern-length : length (patternIn input) ≡ patternCells input
-  unfolding patternIn
-  pattern-length = omega (arith, r .length-is, length-drop (4 + cells input) input)
-
+module _ (input : List ℕ) (r : RightInput input) where
   -- links, counts and flags of 16,384 entries are long enough, so that 9 and 10 are never given
   pub buffers-long : RoomFor (questionIn input) (rooms 16384 16384 16384)
   buffers-long =
       let s = r .sized in
       let down : rowsIn input + 1 - heightIn input ≤ rowsIn input = omega (arith, s .sides .height-good .positive) in
-      let across : columnsIn input + 1 - widthIn input ≤ columnsIn input = omega (arith, s .sides .width-good .positive) in
+      let across : columnsIn input + 1 - widthIn input ≤ columnsIn input = omega (arith, s .sides .width-good .positive)
+      in
       let few : windows (rowsIn input) (columnsIn input) (heightIn input) (widthIn input) ≤ 16384 =
-      omega (arith, r .text-few, product-le (corners (rowsIn input) (heightIn input)) (corners (columnsIn input) (widthIn input)) (rowsIn input) (columnsIn input) down across) in
+      omega (
+        arith,
+        r .text-few,
+        product-le (corners (rowsIn input) (heightIn input))
+            (corners (columnsIn input) (widthIn input)) (rowsIn input) (columnsIn input) down across,
+      ) in
       record {
-        shape = record { sized = s; cells-is = text-length };
-        size = pattern-length;
-        links-room = omega (arith, r .text-few, product-le (rowsIn input) (widthIn input) (rowsIn input) (columnsIn input) (omega arith) (s .fitting .width-le));
+        shape = record { sized = s; cells-is = text-length input r };
+        size = pattern-length input r;
+        links-room =
+            omega (
+              arith,
+              r .text-few,
+              product-le (rowsIn input) (widthIn input) (rowsIn input) (columnsIn input)
+                  (omega arith) (s .fitting .width-le),
+            );
         counts-room = few;
         flags-room = few;
       }
@@ -138,7 +50,8 @@ module _ (input : List ℕ) (r : Right input) where
   abbrev pub needed : ℕ
   needed = neededLength (questionIn input)
 
-  pub own-accepted : needed ≤ 65536 → ownSaid input ≡ accepts (foundIn (questionIn input) ∷ refusedIn (questionIn input) ∷ needed ∷ [])
+  pub own-accepted : needed ≤ 65536 → ownSaid input
+      ≡ accepts (foundIn (questionIn input) ∷ refusedIn (questionIn input) ∷ needed ∷ [])
   unfolding ownSaid
   own-accepted h = search-accepted (questionIn input) (rooms 16384 16384 16384) 65536 buffers-long h
 
@@ -152,8 +65,12 @@ module _ (input : List ℕ) (r : Right input) where
   program-own = rw (input-passes input r)
 
 -- an input that is accepted is right, and its listing has room
-pub program-passed : (input : List ℕ) (values : List ℕ) → programSaid input ≡ accepts values → Right input × (neededLength (questionIn input) ≤ 65536)
+pub program-passed : (input : List ℕ) (values : List ℕ) → programSaid input ≡ accepts values
+    → RightInput input × (neededLength (questionIn input) ≤ 65536)
 unfolding programSaid ownSaid
 program-passed input values e =
-    let a = then-both (inputSaid input) (searchSaid (questionIn input) (rooms 16384 16384 16384) 65536) values e in
-    (input-passed input (a .0 .0) (a .0 .1), search-passed (questionIn input) (rooms 16384 16384 16384) 65536 values (a .1) .1)
+    let a = then-both (inputSaid input) (searchSaid (questionIn input) (rooms 16384 16384 16384) 65536) values e in (
+      input-passed input (a .0 .0) (a .0 .1),
+      search-passed (questionIn input) (rooms 16384 16384 16384) 65536 values
+          (a .1) .1,
+    )

@@ -1,6 +1,6 @@
--- The program's output after its search (`Ran`): where the search answers a listing, its records' lines are the output (`listed-output`); where it refuses,
--- its refusal is the program's (`refused-output`).
--- Why it holds: an input that is right passes the program's own refusals, so that the search's answer decides.
+-- The program's output after its search (`Ran`): where the search answers a listing, its records' lines are the output
+-- (`listed-output`); where it refuses, its refusal is the program's (`refused-output`). Why it holds: an input that is
+-- right passes the program's own refusals, so that the search's answer decides.
 -- Assumes nothing.
 use mathlib.Core.Path.{_≡_, refl, sym, _∙_, ap, ap₂}
 use mathlib.Core.List.{List, [], _∷_}
@@ -25,7 +25,9 @@ use Rattle.search.specs.declared.search.Searched.{Searched}
 use Rattle.search.specs.declared.search.Searched.the-variants.{Listed, Refused}
 use Rattle.printing.specs.Lines.{refusalLine, Recorded}
 use Rattle.printing.specs.Lines.Front.{Begins, BeginsWithLines}
-use Rattle.colourway.specs.Program.{rowsIn, columnsIn, heightIn, widthIn, textIn, patternIn, questionIn, inputSaid, ownSaid, programSaid, recordsFor, outputOf, Right}
+use Rattle.input.specs.Input.{rowsIn, columnsIn, heightIn, widthIn, textIn, patternIn, questionIn, inputSaid}
+use Rattle.input.specs.Input.{RightInput}
+use Rattle.colourway.specs.Program.{ownSaid, programSaid, recordsFor, outputOf}
 use Rattle.colourway.specs.Program.Accepted.{program-own}
 use Rattle.colourway.specs.Theorems.{output-refused, output-listed, pattern-bytes}
 
@@ -34,14 +36,15 @@ pub counted : (n : ℕ) (bytes xs : List ℕ) → Begins n bytes xs → Counts n
 counted n bytes xs b = ((b .inside, sym (length-take-le n bytes (b .inside))), b .first)
 
 -- refused before it is searched
-pub refused-before : (input : List ℕ) (o : Outcome) (why : Refusal) → o ≡ RefusedOutcome why → outcomeSaid o ≡ inputSaid input
+pub refused-before : (input : List ℕ) (o : Outcome) (why : Refusal) → o ≡ RefusedOutcome why
+    → outcomeSaid o ≡ inputSaid input
     → (n : ℕ) (bytes : List ℕ) → Begins n bytes (refusalLine (numberOf why)) → Begins n bytes (outputOf input)
 unfolding programSaid
 refused-before input o why o-is e n bytes b = rw (output-refused input (numberOf why) (valuesOf why) (rw (← e, o-is))) b
 
 -- the search has run on an input, with the program's buffers: what it answered, and the listing buffer afterwards
 pub record Ran (input : List ℕ) (a : Searched) (after : List ℕ) : Type 0 where
-  right : Right input
+  right : RightInput input
   bytes : (k : ℕ) → getD input k 0 < 256
   before : Lent
   left : Lent
@@ -55,7 +58,8 @@ text-part : (input : List ℕ) → take (4 + rowsIn input * columnsIn input - 4)
 unfolding textIn
 text-part input = rw (add-sub-cancel-left 4 (rowsIn input * columnsIn input))
 
-pattern-part : (input : List ℕ) → take (length input - (4 + rowsIn input * columnsIn input)) (drop (4 + rowsIn input * columnsIn input) input) ≡ patternIn input
+pattern-part : (input : List ℕ) → take (length input - (4 + rowsIn input * columnsIn input))
+    (drop (4 + rowsIn input * columnsIn input) input) ≡ patternIn input
 unfolding patternIn
 pattern-part input =
     take-all (length input - (4 + rowsIn input * columnsIn input)) (drop (4 + rowsIn input * columnsIn input) input)
@@ -67,11 +71,14 @@ module _ (input : List ℕ) where
   textPart = take (4 + rowsIn input * columnsIn input - 4) (drop 4 input)
 
   abbrev patternPart : List ℕ
-  patternPart = take (length input - (4 + rowsIn input * columnsIn input)) (drop (4 + rowsIn input * columnsIn input) input)
+  patternPart =
+      take (length input - (4 + rowsIn input * columnsIn input)) (drop (4 + rowsIn input * columnsIn input) input)
 
-  pub ran : (before left : Lent) (a : Searched) → Right input → ((k : ℕ) → getD input k 0 < 256)
-      → 16384 ≡ length (before .work .links) → 16384 ≡ length (before .work .counts) → 16384 ≡ length (before .work .flags) → 65536 ≡ length (before .listing)
-      → done a left ≡ searchOf (ask textPart (rowsIn input) (columnsIn input) patternPart (heightIn input) (widthIn input)) before
+  pub ran : (before left : Lent) (a : Searched) → RightInput input → ((k : ℕ) → getD input k 0 < 256)
+      → 16384 ≡ length (before .work .links) → 16384 ≡ length (before .work .counts)
+      → 16384 ≡ length (before .work .flags) → 65536 ≡ length (before .listing)
+      → done a left ≡ searchOf (ask textPart (rowsIn input) (columnsIn input) patternPart (heightIn input)
+      (widthIn input)) before
       → Ran input a (left .listing)
   ran before left a right bytes l c f long answered =
       record {
@@ -96,8 +103,10 @@ module _ {input : List ℕ} {a : Searched} {after : List ℕ} (r : Ran input a a
       program-own input (r .right) ∙ same
 
   -- refused
-  pub refused-output : (why : Refusal) → a ≡ Refused why → (n : ℕ) (bytes : List ℕ) → Begins n bytes (refusalLine (numberOf why)) → Begins n bytes (outputOf input)
-  refused-output why q-is n bytes b = rw (output-refused input (numberOf why) (valuesOf why) (said-own ∙ ap searchedSaid q-is)) b
+  pub refused-output : (why : Refusal) → a ≡ Refused why → (n : ℕ) (bytes : List ℕ)
+      → Begins n bytes (refusalLine (numberOf why)) → Begins n bytes (outputOf input)
+  refused-output why q-is n bytes b =
+      rw (output-refused input (numberOf why) (valuesOf why) (said-own ∙ ap searchedSaid q-is)) b
 
   -- listed
   module _ (found refused size : ℕ) (q-is : a ≡ Listed found refused size) where
@@ -107,12 +116,14 @@ module _ {input : List ℕ} {a : Searched} {after : List ℕ} (r : Ran input a a
     listing-is-records : take size after ≡ bytesAll (recordsFor input)
     unfolding recordsFor
     listing-is-records =
-        rw (r .after-is) (listed-bytes (questionIn input) (r .before) (r .left) a found refused size q-is (r .answered) (pattern-bytes input (r .bytes)))
+        rw (r .after-is) (listed-bytes (questionIn input) (r .before) (r .left) a found refused size q-is (r .answered)
+        (pattern-bytes input (r .bytes)))
 
     -- the listing lies in the buffer
     pub size-inside : size ≤ length after
     size-inside =
-        rw (r .after-is) (listed-inside (questionIn input) (r .before) (r .left) a found refused size q-is (r .answered) (pattern-bytes input (r .bytes)))
+        rw (r .after-is) (listed-inside (questionIn input) (r .before) (r .left) a found refused size q-is (r .answered)
+        (pattern-bytes input (r .bytes)))
 
     -- its bytes are those of records, and few enough to be printed
     pub printable : Recorded (take size after) × (length (take size after) ≤ 65536)
@@ -127,6 +138,11 @@ module _ {input : List ℕ} {a : Searched} {after : List ℕ} (r : Ran input a a
     )
 
     -- and their lines are the output
-    pub listed-output : (n : ℕ) (bytes : List ℕ) → BeginsWithLines (take size after) n bytes → Begins n bytes (outputOf input)
+    pub listed-output : (n : ℕ) (bytes : List ℕ) → BeginsWithLines (take size after) n bytes
+        → Begins n bytes (outputOf input)
     listed-output n bytes b =
-        record { inside = b .inside; first = b .lines-are (recordsFor input) listing-is-records ∙ sym (output-listed input (found ∷ refused ∷ size ∷ []) accepted) }
+        record {
+          inside = b .inside;
+          first = b .lines-are (recordsFor input) listing-is-records
+              ∙ sym (output-listed input (found ∷ refused ∷ size ∷ []) accepted);
+        }

@@ -1,20 +1,24 @@
--- What the steps of flagging leave in the buffers: every window's count and flag in order, the used links 0, and behind them what was there.
+-- What the steps of flagging leave in the buffers: every window's count and flag in order, the used links 0, and behind
+-- them what was there.
 -- Assumes nothing.
 use mathlib.Core.Path.{_≡_, refl, sym, _∙_, ap}
 use mathlib.Core.List.{List, _++_}
 use Prim.Native.Nat.{ℕ, _+_, _*_, _≤_, _<_}
 use native.Mathlib.Omega.{arith}
 use lib.ListN.{length, drop, List·getD-append, length-append, length-drop}
-use Rattle.theory.specs.Table.{table, length-table, getD-table}
-use Rattle.theory.specs.Store.{stored, storedRows, rows-none, rows-more, rows-all, Covers}
+use Rattle.theory.specs.Table.{table}
+use Rattle.theory.specs.Table.Laws.{length-table, getD-table}
+use Rattle.theory.specs.Store.{stored, storedRows, Covers}
+use Rattle.theory.specs.Store.Laws.{rows-none, rows-more, rows-all}
 use Rattle.shapes.specs.Said.{overFront}
 use Rattle.shapes.specs.Shapes.{ShapeOf, across, down}
-use Rattle.grid.specs.Counts.{countOf, countsAfter, counts-accepted, counts-after, windows-covered}
+use Rattle.grid.specs.Counts.{countOf, countsOf}
+use Rattle.grid.specs.Counts.Laws.{counts-accepted, counts-after, windows-covered}
 use Rattle.shapes.specs.declared.shapes.Shape.{Shape}
 use Rattle.shapes.specs.Questions.{asked}
 use Rattle.flags.specs.Flags.{Work, working, marked}
 use Rattle.flags.specs.Flags.Strips.{CountsAre, flagOf}
-use Rattle.flags.specs.Flags.Links.{Kept}
+use Rattle.flags.specs.Flags.Links.{RestKept}
 
 -- the first n entries of a buffer
 buffer-table : (f : ℕ → ℕ) (n : ℕ) (l : List ℕ) → overFront (table f n) l ≡ table f n ++ drop n l
@@ -22,8 +26,9 @@ buffer-table f n l = ap (λ (k : ℕ). table f n ++ drop k l) (length-table f n)
 
 -- ---- counts
 
-module _ (text : List ℕ) (s : Shape) (counts after : List ℕ) (shape : ShapeOf s (length text)) (room : down s * across s ≤ length counts)
-    (is : after ≡ countsAfter text s counts) where
+module _ (text : List ℕ) (s : Shape) (counts after : List ℕ) (shape : ShapeOf s (length text))
+    (room : down s * across s ≤ length counts)
+    (is : after ≡ countsOf text s counts .buffer) where
   after-is : after ≡ table (countOf text s) (down s * across s) ++ drop (down s * across s) counts
   after-is =
       is
@@ -33,7 +38,8 @@ module _ (text : List ℕ) (s : Shape) (counts after : List ℕ) (shape : ShapeO
   pub counts-there : CountsAre text s after
   counts-there k h =
       rw after-is
-      (List·getD-append (table (countOf text s) (down s * across s)) (drop (down s * across s) counts) 0 k (omega (arith, length-table (countOf text s) (down s * across s)))
+      (List·getD-append (table (countOf text s) (down s * across s)) (drop (down s * across s) counts) 0 k
+      (omega (arith, length-table (countOf text s) (down s * across s)))
       ∙ getD-table (countOf text s) (down s * across s) k 0 h)
 
   pub counts-long : length after ≡ length counts
@@ -60,12 +66,14 @@ marks-over text pattern s w after a b c = ap₃ working a b c
 
 -- ---- flags
 
-pub flags-over : (text pattern : List ℕ) (s : Shape) (flags after : List ℕ) → 0 < across s → down s * across s ≤ length flags
+pub flags-over : (text pattern : List ℕ) (s : Shape) (flags after : List ℕ) → 0 < across s
+    → down s * across s ≤ length flags
     → after ≡ storedRows (flagOf text pattern s) (λ left top. top * across s + left) (across s) (down s) flags
     → after ≡ overFront (table (flagOf text pattern s) (down s * across s)) flags
 flags-over text pattern s flags after pos room e =
     e
-    ∙ rows-all (flagOf text pattern s) (λ left top. top * across s + left) (down s) (across s) (down s * across s) flags (windows-covered s pos) room
+    ∙ rows-all (flagOf text pattern s) (λ left top. top * across s + left) (down s) (across s) (down s * across s) flags
+    (windows-covered s pos) room
     ∙ sym (buffer-table (flagOf text pattern s) (down s * across s) flags)
 
 -- ---- links
@@ -79,7 +87,8 @@ cleared n l r h e =
     rows-more (λ p. 0) (λ i j. j) n 0 l l r (sym (rows-none (λ p. 0) (λ i j. j) n l)) e
     ∙ rows-all (λ p. 0) (λ i j. j) n 1 n l (one-row n) h
 
-pub links-over : (n : ℕ) (links used after : List ℕ) → n ≤ length links → Kept n links used → after ≡ stored (λ p. 0) (λ p. p) n used
+pub links-over : (n : ℕ) (links used after : List ℕ) → n ≤ length links → RestKept n links used
+    → after ≡ stored (λ p. 0) (λ p. p) n used
     → after ≡ overFront (table (λ p. 0) n) links
 links-over n links used after room kept e =
     cleared n used after (omega (arith, kept .long)) e

@@ -1,4 +1,5 @@
--- A list as the set of what stands in it: when a symbol stands in a list, and that the number of different symbols is the size of that set.
+-- A list as the set of what stands in it: when a symbol stands in a list, and that the number of different symbols is
+-- the size of that set.
 -- Assumes nothing.
 use mathlib.Core.Path.{_≡_, refl, sym, ap, _∙_}
 use mathlib.Core.Bool.{Bool, true, false}
@@ -9,8 +10,10 @@ use native.Mathlib.Omega.{arith}
 use lib.Dec.{eqb, ltb}
 use lib.ListN.{length, getD}
 use borrow.Author.Tests.{lt-ltb, eq-eqb, ne-eqb}
-use Rattle.theory.specs.Test.{pick, pick-true, pick-false, Tested, holds, fails, eq-tested}
-use Rattle.theory.specs.Count.{count, count-ext, count-more, count-none, Entry}
+use Rattle.theory.specs.Test.{pick, Tested, holds, fails}
+use Rattle.theory.specs.Test.Laws.{pick-true, pick-false, eq-tested}
+use Rattle.theory.specs.Count.{count, Entry}
+use Rattle.theory.specs.Count.Laws.{count-ext, count-more, count-none}
 use Rattle.grid.specs.Distinct.{occurs, contains, distinct}
 
 pub contains-none : (v : ℕ) → contains [] v ≡ false
@@ -36,14 +39,16 @@ either false false c = refl
 pub contains-end : (xs : List ℕ) (x v : ℕ) → contains (xs ++ (x ∷ [])) v ≡ pick (eqb v x) true (contains xs v)
 contains-end [] x v = contains-cons x [] v
 contains-end (y ∷ xs) x v =
-    contains-cons y (xs ++ (x ∷ [])) v ∙ ap (pick (eqb v y) true) (contains-end xs x v) ∙ either (eqb v y) (eqb v x) (contains xs v)
+    contains-cons y (xs ++ (x ∷ [])) v ∙ ap (pick (eqb v y) true) (contains-end xs x v)
+    ∙ either (eqb v y) (eqb v x) (contains xs v)
     ∙ ap (pick (eqb v x) true) (sym (contains-cons y xs v))
 
 -- a symbol stands in a list exactly if an entry is that symbol
 tail : (x : ℕ) (xs : List ℕ) (v : ℕ) → Entry xs v → Entry (x ∷ xs) v
 tail x xs v e = (suc (e .0), omega (arith, e .1), e .2)
 
-no-more : (x : ℕ) (xs : List ℕ) (v : ℕ) → (v ≡ x → ⊥) → (Entry xs v → ⊥) → (i : ℕ) → i < length (x ∷ xs) → getD (x ∷ xs) i 0 ≡ v → ⊥
+no-more : (x : ℕ) (xs : List ℕ) (v : ℕ) → (v ≡ x → ⊥) → (Entry xs v → ⊥) → (i : ℕ) → i < length (x ∷ xs)
+    → getD (x ∷ xs) i 0 ≡ v → ⊥
 no-more x xs v d n zero l e = d (sym e)
 no-more x xs v d n (suc i) l e = n (i, le-of-suc-le-suc l, e)
 
@@ -53,7 +58,8 @@ contains-tested [] v = fails (λ e. none (e .0) (e .1))
   where
     none : (i : ℕ) → i < 0 → ⊥
     none i h = omega arith
-contains-tested (x ∷ xs) v = rw (contains-cons x xs v) (go (eqb v x) (contains xs v) (eq-tested v x) (contains-tested xs v))
+contains-tested (x ∷ xs) v =
+    rw (contains-cons x xs v) (go (eqb v x) (contains xs v) (eq-tested v x) (contains-tested xs v))
   where
     go : (s t : Bool) → Tested (v ≡ x) s → Tested (Entry xs v) t → Tested (Entry (x ∷ xs) v) (pick s true t)
     go true t (holds e) h = holds (0, omega arith, sym e)
@@ -64,7 +70,8 @@ contains-tested (x ∷ xs) v = rw (contains-cons x xs v) (go (eqb v x) (contains
 module _ (n x : ℕ) (xs : List ℕ) where
   -- x stands further on: the set is the same
   count-old : contains xs x ≡ true → count (contains (x ∷ xs)) n ≡ count (contains xs) n
-  count-old t = count-ext (contains (x ∷ xs)) (contains xs) n (λ v _. contains-cons x xs v ∙ go v (eqb v x) (eq-tested v x))
+  count-old t =
+      count-ext (contains (x ∷ xs)) (contains xs) n (λ v _. contains-cons x xs v ∙ go v (eqb v x) (eq-tested v x))
     where
       go : (v : ℕ) (b : Bool) → Tested (v ≡ x) b → pick b true (contains xs v) ≡ contains xs v
       go v true (holds e) = sym (ap (contains xs) e ∙ t)
@@ -77,11 +84,13 @@ module _ (n x : ℕ) (xs : List ℕ) where
       (contains-cons x xs x ∙ pick-true true (contains xs x) (eq-eqb x x refl))
       (λ v d. sym (contains-cons x xs v ∙ pick-false true (contains xs v) (ne-eqb v x d)))
 
-pub distinct-count : (xs : List ℕ) (n : ℕ) → ((i : ℕ) → i < length xs → getD xs i 0 < n) → count (contains xs) n ≡ distinct xs
+pub distinct-count : (xs : List ℕ) (n : ℕ) → ((i : ℕ) → i < length xs → getD xs i 0 < n)
+    → count (contains xs) n ≡ distinct xs
 unfolding distinct
 distinct-count [] n h = count-none (contains []) n (λ v _. contains-none v)
 distinct-count (x ∷ xs) n h = go (distinct-count xs n (λ i l. h (suc i) (omega arith))) (contains xs x) refl
   where
-    go : count (contains xs) n ≡ distinct xs → (b : Bool) → contains xs x ≡ b → count (contains (x ∷ xs)) n ≡ pick b (distinct xs) (distinct xs + 1)
+    go : count (contains xs) n ≡ distinct xs → (b : Bool) → contains xs x ≡ b
+        → count (contains (x ∷ xs)) n ≡ pick b (distinct xs) (distinct xs + 1)
     go ih true t = count-old n x xs t ∙ ih
     go ih false f = count-new n x xs (h 0 (omega arith)) f ∙ ap (λ (m : ℕ). m + 1) ih

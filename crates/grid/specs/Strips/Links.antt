@@ -8,9 +8,12 @@ use native.Mathlib.Decide.{ℕ-discrete}
 use native.Mathlib.Omega.{arith}
 use lib.Dec.{eqb}
 use lib.ListN.{getD}
-use Rattle.theory.specs.Test.{pick, Tested, holds, fails, eq-tested, lt-tested, says-true, says-false}
-use Rattle.theory.specs.First.{first, First, first-spec}
-use Rattle.theory.specs.Table.{table, getD-table, table-ext}
+use Rattle.theory.specs.Test.{pick, Tested, holds, fails}
+use Rattle.theory.specs.Test.Laws.{eq-tested, lt-tested, says-true, says-false}
+use Rattle.theory.specs.First.{first, First}
+use Rattle.theory.specs.First.Laws.{first-spec}
+use Rattle.theory.specs.Table.{table}
+use Rattle.theory.specs.Table.Laws.{getD-table, table-ext}
 use Rattle.grid.specs.Strips.{link}
 
 -- d is the link of p: nothing earlier has p's symbol, or the nearest that has is d before p
@@ -36,7 +39,9 @@ module _ (s : ℕ → ℕ) (p : ℕ) where
       f = first-spec (λ k. eqb (s (p - suc k)) (s p)) p
 
       go : {t : Bool} → Tested (k < p) t → Linked s p (pick t (suc k) 0)
-      go (holds h) = back (suc k) (omega arith) h (says-true (eq-tested _ _) (f .hit h)) (λ q a b. differs q b (f .before (p - suc q) (omega arith)))
+      go (holds h) =
+          back (suc k) (omega arith) h (says-true (eq-tested _ _) (f .hit h))
+          (λ q a b. differs q b (f .before (p - suc q) (omega arith)))
       go (fails n) =
           let all : p ≤ k = omega arith in
           none (λ q h. differs q h (f .before (p - suc q) (omega arith)))
@@ -63,15 +68,15 @@ module _ (s : ℕ → ℕ) (p : ℕ) where
       go (back d pos le e no-nearer) z = absurd (omega arith)
 
   -- a link d > 0 has the same symbol at p − d and none between
-  pub record Back (d : ℕ) : Type 0 where
+  pub record LinksBack (d : ℕ) : Type 0 where
     pub within : d ≤ p
     pub same : s (p - d) ≡ s p
     pub nearest : (k : ℕ) → p - d < k → k < p → s k ≡ s p → ⊥
 
-  pub link-back : 0 < link s p → Back (link s p)
+  pub link-back : 0 < link s p → LinksBack (link s p)
   link-back h = go link-linked h
     where
-      go : {d : ℕ} → Linked s p d → 0 < d → Back d
+      go : {d : ℕ} → Linked s p d → 0 < d → LinksBack d
       go (none n) z = absurd (omega arith)
       go (back d pos le e no-nearer) z = record { within = le; same = e; nearest = no-nearer }
 
@@ -86,13 +91,16 @@ link-ext s t p h = linked-is s p (carried (link-linked t p))
     carried : {d : ℕ} → Linked t p d → Linked s p d
     carried (none n) = none (λ q l e. n q l (sym (h q (omega arith)) ∙ e ∙ at-p))
     carried (back d pos le e no-nearer) =
-        back d pos le (h (p - d) (omega arith) ∙ e ∙ sym at-p) (λ k a b f. no-nearer k a b (sym (h k (omega arith)) ∙ f ∙ at-p))
+        back d pos le (h (p - d) (omega arith) ∙ e ∙ sym at-p)
+        (λ k a b f. no-nearer k a b (sym (h k (omega arith)) ∙ f ∙ at-p))
 
 -- the links of a list of symbols
-pub links-of-list : (s : ℕ → ℕ) (n : ℕ) (xs : List ℕ) → table s n ≡ xs → table (link s) n ≡ table (link (λ p. getD xs p 0)) n
+pub links-of-list : (s : ℕ → ℕ) (n : ℕ) (xs : List ℕ) → table s n ≡ xs
+    → table (link s) n ≡ table (link (λ p. getD xs p 0)) n
 links-of-list s n xs e =
     table-ext (link s) (link (λ p. getD xs p 0)) n
-    (λ p l. link-ext s (λ p. getD xs p 0) p (λ q b. sym (getD-table s n q 0 (omega arith)) ∙ ap (λ (l : List ℕ). getD l q 0) e))
+    (λ p l. link-ext s (λ p. getD xs p 0) p
+    (λ q b. sym (getD-table s n q 0 (omega arith)) ∙ ap (λ (l : List ℕ). getD l q 0) e))
 
 -- document 01's first draft: its two strips of two columns
 pub example-link-values : (table (link (λ p. getD (7 ∷ 7 ∷ 3 ∷ 7 ∷ []) p 0)) 4 ≡ 0 ∷ 1 ∷ 0 ∷ 2 ∷ [])
@@ -105,7 +113,7 @@ example-link-values = (refl, refl)
 -- from p back to q by links, none of which goes past q
 pub data Chain (s : ℕ → ℕ) (q : ℕ) : ℕ → Type 0 where
   there : Chain s q q
-  onward : {p : ℕ} → 0 < link s p → q + link s p ≤ p → Chain s q (p - link s p) → Chain s q p
+  chain-onward : {p : ℕ} → 0 < link s p → q + link s p ≤ p → Chain s q (p - link s p) → Chain s q p
 
 module _ (s : ℕ → ℕ) (q : ℕ) where
   chain-within : (n p : ℕ) → p ≤ n → q ≤ p → s q ≡ s p → Chain s q p
@@ -114,11 +122,13 @@ module _ (s : ℕ → ℕ) (q : ℕ) where
       subst (Chain s q) same there
   chain-within (suc n) p l h e = go (chain-within n) (ℕ-discrete q p)
     where
-      step : ((i : ℕ) → i ≤ n → q ≤ i → s q ≡ s i → Chain s q i) → q < p → {c : ℕ} → Linked s p c → link s p ≡ c → Chain s q p
+      step : ((i : ℕ) → i ≤ n → q ≤ i → s q ≡ s i → Chain s q i) → q < p → {c : ℕ} → Linked s p c → link s p ≡ c
+          → Chain s q p
       step ih less (none none-before) i = absurd (none-before q less e)
       step ih less (back c pos le same no-nearer) i =
           let past : p - c < q → ⊥ = λ b. no-nearer q b less e in
-          onward {p = p} (omega arith) (omega arith) (rw i (ih (p - c) (omega arith) (omega arith) (e ∙ sym same)))
+          chain-onward {p =
+          p} (omega arith) (omega arith) (rw i (ih (p - c) (omega arith) (omega arith) (e ∙ sym same)))
 
       go : ((i : ℕ) → i ≤ n → q ≤ i → s q ≡ s i → Chain s q i) → Dec (q ≡ p) → Chain s q p
       go ih (yes d) = subst (Chain s q) d there

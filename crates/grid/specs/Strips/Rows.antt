@@ -12,11 +12,16 @@ use lib.ListN.{length, getD, set, length-set}
 use lib.Seq.{getD-set-same, getD-set-other}
 use borrow.Author.Tests.{ne-eqb}
 use Rattle.theory.specs.Test.{pick}
-use Rattle.theory.specs.Store.{stored, storedRows, stored-none, stored-more, rows-more, rows-all, Covers}
-use Rattle.shapes.specs.Shapes.{product-le}
-use Rattle.shapes.specs.Windows.{rowCells, row-inside, length-row, row-at, window-strip}
-use Rattle.shapes.specs.Said.{accepts}
-use Rattle.grid.specs.Strips.{link, linksSaid, linksAfter, links-passed, links-after, stripSymbols, StripOf, Latest, never, latest, LastPlaces, RowAt, Linkable, LinkedRow}
+use Rattle.theory.specs.Store.{stored, storedRows, Covers}
+use Rattle.theory.specs.Store.Laws.{stored-none, stored-more, rows-more, rows-all}
+use Rattle.shapes.specs.declared.refusals.Outcome.the-variants.{Accepted}
+use Rattle.shapes.specs.Shapes.Laws.{product-le}
+use Rattle.shapes.specs.Windows.{rowCells}
+use Rattle.shapes.specs.Windows.Laws.{row-inside, length-row, row-at, window-strip}
+use Rattle.shapes.specs.Said.{accepts, filled}
+use Rattle.grid.specs.Strips.{link, linksSaid, stripSymbols, StripOf, Latest, never, latest, linksOf, stripSize}
+use Rattle.grid.specs.Strips.{LastPlaces, RowFrom, Linkable, LinkedRow}
+use Rattle.grid.specs.Strips.Laws.{links-passed, links-new}
 use Rattle.grid.specs.Strips.Links.{none, back, linked-is}
 use Rattle.grid.specs.declared.strips.Strip.{Strip}
 
@@ -33,7 +38,8 @@ module _ (s : ℕ → ℕ) where
   latest-link p (latest q h e later) =
       let gap : p + 1 - suc q ≡ p - q = omega arith in
       let same : p - (p - q) ≡ q = omega arith in
-      linked-is s p (rw (ne-eqb (suc q) 0 (omega arith), gap) (back (p - q) (omega arith) (omega arith) (ap s same ∙ e) (λ k a b. later k (omega arith) b)))
+      linked-is s p (rw (ne-eqb (suc q) 0 (omega arith), gap)
+      (back (p - q) (omega arith) (omega arith) (ap s same ∙ e) (λ k a b. later k (omega arith) b)))
 
   pub last-places-none : (t : List ℕ) → length t ≡ 256 → ((v : ℕ) → v < 256 → getD t v 0 ≡ 0) → LastPlaces s 0 t
   last-places-none t l z =
@@ -43,7 +49,8 @@ module _ (s : ℕ → ℕ) where
       below q b = omega arith
 
   -- one position more
-  pub last-places-more : (p : ℕ) (t : List ℕ) → s p < 256 → LastPlaces s p t → LastPlaces s (suc p) (set t (s p) (suc p))
+  pub last-places-more : (p : ℕ) (t : List ℕ) → s p < 256 → LastPlaces s p t
+      → LastPlaces s (suc p) (set t (s p) (suc p))
   last-places-more p t small l = record { long = rw length-set (l .long); each = λ v h. go v h (ℕ-discrete v (s p)) }
     where
       grow : (v : ℕ) → (v ≡ s p → ⊥) → {x : ℕ} → Latest s p v x → Latest s (suc p) v x
@@ -69,40 +76,51 @@ module _ (s : ℕ → ℕ) where
 
   module _ (base : ℕ) (links₀ : List ℕ) where
     pub linked-row-none : (last : List ℕ) → LastPlaces s base last → LinkedRow s base 0 links₀ last links₀
-    linked-row-none last l = record { places = rw add-zero l; written = sym (stored-none (link s) (λ j. base + j) links₀) }
+    linked-row-none last l =
+        record { places = rw add-zero l; written = sym (stored-none (link s) (λ j. base + j) links₀) }
 
-    pub linked-row-more : (j : ℕ) (last links : List ℕ) (v d : ℕ) → LinkedRow s base j links₀ last links → v ≡ s (base + j) → v < 256
+    pub linked-row-more : (j : ℕ) (last links : List ℕ) (v d : ℕ) → LinkedRow s base j links₀ last links
+        → v ≡ s (base + j) → v < 256
         → d ≡ pick (eqb (getD last v 0) 0) 0 (base + j + 1 - getD last v 0)
         → LinkedRow s base (j + 1) links₀ (set last v (base + j + 1)) (set links (base + j) d)
     linked-row-more j last links v d l e small q =
         record {
-          places = rw (e, add-one (base + j), add-one j, add-suc base j) (last-places-more (base + j) last (subst (λ (x : ℕ). x < 256) e small) (l .places));
-          written = rw (add-one j) (stored-more (link s) (λ j. base + j) j links₀ links d (l .written) (q ∙ sym linked));
+          places =
+              rw (e, add-one (base + j), add-one j, add-suc base j)
+              (last-places-more (base + j) last (subst (λ (x : ℕ). x < 256) e small) (l .places));
+          written =
+              rw (add-one j) (stored-more (link s) (λ j. base + j) j links₀ links d (l .written) (q ∙ sym linked));
         }
       where
         linked : link s (base + j) ≡ pick (eqb (getD last v 0) 0) 0 (base + j + 1 - getD last v 0)
-        linked = latest-link (base + j) (subst (λ (x : ℕ). Latest s (base + j) x (getD last v 0)) e (l .places .each v small))
+        linked =
+            latest-link (base + j) (subst (λ (x : ℕ). Latest s (base + j) x (getD last v 0)) e
+            (l .places .each v small))
 
 -- ---- a strip, row by row
 
 module _ (text : List ℕ) (t : Strip) (strip : StripOf t (length text)) (i : ℕ) (inside : i < t .rows) (row : List ℕ)
     (is-row : row ≡ rowCells text (t .columns) i (t .left) (t .width)) where
   fits-row : i * t .columns + t .left + t .width ≤ length text
-  fits-row = row-inside (length text) (t .rows) (t .columns) (t .rows) (t .width) (t .left) i (strip .shape) (strip .inside) inside
+  fits-row =
+      row-inside (length text) (t .rows) (t .columns) (t .rows) (t .width) (t .left) i (strip .shape) (strip .inside)
+      inside
 
   pub length-strip-row : length row ≡ t .width
   length-strip-row = rw is-row (length-row text (t .columns) i (t .left) (t .width) fits-row)
 
   -- row i of the text is row i of the strip
-  pub strip-row-at : RowAt (stripSymbols text t) (i * t .width) row
+  pub strip-row-at : RowFrom (stripSymbols text t) (i * t .width) row
   strip-row-at j h =
       let j-lt : j < t .width = omega (arith, length-strip-row) in
-      rw is-row (row-at text (t .columns) i (t .left) (t .width) j j-lt ∙ window-strip text (t .columns) i (t .left) (t .width) j (omega arith))
+      rw is-row (row-at text (t .columns) i (t .left) (t .width) j j-lt
+      ∙ window-strip text (t .columns) i (t .left) (t .width) j (omega arith))
 
   row-ends : i * t .width + length row ≤ t .rows * t .width
   row-ends = omega (arith, length-strip-row, suc-mul i (t .width), mul-le-mul-right (t .width) inside)
 
-  pub linkable-row : (last : List ℕ) (room : ℕ) → LastPlaces (stripSymbols text t) (i * t .width) last → t .rows * t .width ≤ room → Linkable (i * t .width) row last room
+  pub linkable-row : (last : List ℕ) (room : ℕ) → LastPlaces (stripSymbols text t) (i * t .width) last
+      → t .rows * t .width ≤ room → Linkable (i * t .width) row last room
   linkable-row last room l h =
       record {
         symbols = stripSymbols text t;
@@ -113,18 +131,23 @@ module _ (text : List ℕ) (t : Strip) (strip : StripOf t (length text)) (i : �
       }
 
   -- the last places before the next row, and the links of one row more
-  pub next-places : (links₀ last links : List ℕ) → LinkedRow (stripSymbols text t) (i * t .width) (length row) links₀ last links
+  pub next-places : (links₀ last links : List ℕ)
+      → LinkedRow (stripSymbols text t) (i * t .width) (length row) links₀ last links
       → LastPlaces (stripSymbols text t) ((i + 1) * t .width) last
   next-places links₀ last links l =
-      subst (λ (p : ℕ). LastPlaces (stripSymbols text t) p last) (ap (λ (n : ℕ). i * t .width + n) length-strip-row ∙ sym (suc-mul i (t .width)) ∙ ap (λ (n : ℕ). n * t .width) (sym (add-one i))) (l .places)
+      subst (λ (p : ℕ). LastPlaces (stripSymbols text t) p last)
+      (ap (λ (n : ℕ). i * t .width + n) length-strip-row ∙ sym (suc-mul i (t .width))
+      ∙ ap (λ (n : ℕ). n * t .width) (sym (add-one i))) (l .places)
 
-  pub next-links : (links links₀ last r : List ℕ) → links ≡ storedRows (link (stripSymbols text t)) (λ i j. i * t .width + j) i (t .width) links₀
+  pub next-links : (links links₀ last r : List ℕ)
+      → links ≡ storedRows (link (stripSymbols text t)) (λ i j. i * t .width + j) i (t .width) links₀
       → LinkedRow (stripSymbols text t) (i * t .width) (length row) links last r
       → r ≡ storedRows (link (stripSymbols text t)) (λ i j. i * t .width + j) (i + 1) (t .width) links₀
   next-links links links₀ last r e l =
       rw (add-one i)
       (rows-more (link (stripSymbols text t)) (λ i j. i * t .width + j) (t .width) i links₀ links r e
-      (l .written ∙ ap (λ (n : ℕ). stored (link (stripSymbols text t)) (λ j. i * t .width + j) n links) length-strip-row))
+      (l .written ∙ ap (λ (n : ℕ). stored (link (stripSymbols text t)) (λ j. i * t .width + j) n links)
+      length-strip-row))
 
 -- every position lies in one row
 pub positions-covered : (rows width : ℕ) → 0 < width → Covers (λ i j. i * width + j) rows width (rows * width)
@@ -136,19 +159,13 @@ positions-covered rows width pos =
       inside = λ i j a b. omega (arith, suc-mul i width, mul-le-mul-right width a);
     }
 
--- what an accepted call hands on, and what it leaves when all rows are linked
-pub strip-of : (text : List ℕ) (t : Strip) (room : ℕ) → linksSaid text (t .rows) (t .columns) (t .width) (t .left) room ≡ accepts []
-    → StripOf t (length text) × (t .rows * t .width ≤ room)
-strip-of text t room z =
-    let p = links-passed text (t .rows) (t .columns) (t .width) (t .left) room [] z in
-    (record { shape = p .0; inside = p .1 }, p .2)
-
-pub links-written : (text : List ℕ) (t : Strip) (links r : List ℕ) → linksSaid text (t .rows) (t .columns) (t .width) (t .left) (length links) ≡ accepts []
+-- all rows linked are what an accepted call leaves
+pub links-written : (text : List ℕ) (t : Strip) (links r : List ℕ) → linksSaid text t (length links) ≡ accepts []
     → r ≡ storedRows (link (stripSymbols text t)) (λ i j. i * t .width + j) (t .rows) (t .width) links
-    → r ≡ linksAfter text (t .rows) (t .columns) (t .width) (t .left) links
+    → filled Accepted r ≡ linksOf text t links
 links-written text t links r z e =
-    let p = strip-of text t (length links) z in
-    e
-    ∙ rows-all (link (stripSymbols text t)) (λ i j. i * t .width + j) (t .width) (t .rows) (t .rows * t .width) links
-    (positions-covered (t .rows) (t .width) (p .0 .shape .sized .sides .width-good .positive)) (p .1)
-    ∙ sym (links-after text (t .rows) (t .columns) (t .width) (t .left) links z)
+    let p = links-passed text t (length links) [] z in
+    links-new text t links r z
+    (e
+    ∙ rows-all (link (stripSymbols text t)) (λ i j. i * t .width + j) (t .width) (t .rows) (stripSize t) links
+    (positions-covered (t .rows) (t .width) (p .0 .shape .sized .sides .width-good .positive)) (p .1))

@@ -1,5 +1,6 @@
--- What pairing, inverting and composing give: agreement is kept, pairing changes one image and one preimage, the inverse of the inverse is the
--- bijection itself, and the composite takes a to c over some x. Each is a law on columns (theory, Columns) at the columns of a bijection.
+-- What pairing, inverting and composing give: agreement is kept, pairing changes one image and one preimage, the
+-- inverse of the inverse is the bijection itself, and the composite takes a to c over some x. Each is a law on columns
+-- (theory, Columns) at the columns of a bijection.
 -- Assumes nothing.
 use mathlib.Core.Path.{_≡_, refl, ap₂}
 use mathlib.Core.List.{List}
@@ -31,7 +32,8 @@ module _ (b : Bijection) (a c : ℕ) where
   pub paired-agrees : length (b .forward) ≡ 256 → length (b .backward) ≡ 256 → a < 256 → c < 256 → Pairable b a c
       → Agree (paired b a c .forward) (paired b a c .backward)
   unfolding paired
-  paired-agrees lf lg ha hc s = set-agrees (b .forward) (b .backward) a c lf lg ha hc (s .image-free) (s .preimage-free) (s .agreed)
+  paired-agrees lf lg ha hc s =
+      set-agrees (b .forward) (b .backward) a c lf lg ha hc (s .image-free) (s .preimage-free) (s .agreed)
 
   -- a has the image c, c the preimage a, and all others have what they had
   pub paired-image : length (b .forward) ≡ 256 → a < 256 → getD (paired b a c .forward) a 0 ≡ c
@@ -54,9 +56,11 @@ module _ (b : Bijection) (a c : ℕ) where
   pub paired-again : Agree (b .forward) (b .backward) → a < 256 → c < 256 → getD (b .forward) a 0 ≡ c → paired b a c ≡ b
   unfolding paired
   paired-again s ha hc e =
-      same-columns (paired b a c) b (set-again (b .forward) a c e) (set-again (b .backward) c a (s .same a ha c hc .0 e))
+      same-columns (paired b a c) b (set-again (b .forward) a c e)
+      (set-again (b .backward) c a (s .same a ha c hc .0 e))
 
-pub inverse-agrees : (b : Bijection) → Agree (b .forward) (b .backward) → Agree (inverse b .forward) (inverse b .backward)
+pub inverse-agrees : (b : Bijection) → Agree (b .forward) (b .backward)
+    → Agree (inverse b .forward) (inverse b .backward)
 unfolding inverse
 inverse-agrees b s = agree-sym (b .forward) (b .backward) s
 
@@ -72,16 +76,13 @@ module _ (b d : Bijection) where
 
   -- the composite gives c for a exactly if b gives some x for a and d gives c for that x; and so backward
   pub composite-image : (a c : ℕ) → a < 256 → c < 256
-      → (getD (composite b d .forward) a 0 ≡ c) ↔ ((x : ℕ) × (x < 256) × (getD (b .forward) a 0 ≡ x) × (getD (d .forward) x 0 ≡ c))
+      → (getD (composite b d .forward) a 0 ≡ c)
+      ↔ ((x : ℕ) × (x < 256) × (getD (b .forward) a 0 ≡ x) × (getD (d .forward) x 0 ≡ c))
   unfolding composite
   composite-image a c ha hc = chained-gives (b .forward) (d .forward) a c ha hc
 
   pub composite-preimage : (c a : ℕ) → c < 256 → a < 256
-      → (getD (composite b d .backward) c 0 ≡ a) ↔ ((x : ℕ) × (x < 256) × (getD (d .backward) c 0 ≡ x) × (getD (b .backward) x 0 ≡ a))
+      → (getD (composite b d .backward) c 0 ≡ a)
+      ↔ ((x : ℕ) × (x < 256) × (getD (d .backward) c 0 ≡ x) × (getD (b .backward) x 0 ≡ a))
   unfolding composite
   composite-preimage c a hc ha = chained-gives (d .backward) (b .backward) c a hc ha
-
-  -- the way back is through the inverses in the other order
-  pub inverse-composite : inverse (composite b d) ≡ composite (inverse d) (inverse b)
-  unfolding inverse composite
-  inverse-composite = refl

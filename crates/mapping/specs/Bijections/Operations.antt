@@ -1,5 +1,5 @@
--- The laws of bijections said of the operations, refused or not: inverting twice gives the bijection back, pairing the same pair again is accepted
--- and changes nothing, and no operation makes columns disagree.
+-- The laws of bijections said of the operations, refused or not: inverting twice gives the bijection back, pairing the
+-- same pair again is accepted and changes nothing, and no operation makes columns disagree.
 -- Assumes nothing.
 use mathlib.Core.Path.{_≡_, refl, sym, _∙_, ap}
 use mathlib.Core.Bool.{Bool}
@@ -7,26 +7,34 @@ use mathlib.Core.Logic.{inr}
 use mathlib.Core.List.{List, []}
 use Prim.Native.Nat.{ℕ, _<_}
 use lib.ListN.{length, getD}
-use Rattle.theory.specs.Test.{Tested, holds, fails, is-false}
+use Rattle.theory.specs.Test.{Tested, holds, fails}
+use Rattle.theory.specs.Test.Laws.{is-false}
 use Rattle.theory.specs.Columns.{Agree}
-use Rattle.shapes.specs.Said.{Said, accepts, refuses}
+use Rattle.shapes.specs.Said.{Said, accepts, refuses, newBy}
 use Rattle.mapping.specs.declared.bijections.Bijection.{Bijection}
-use Rattle.mapping.specs.Bijections.{paired, inverse, composite, Renamed, bijectionBy, pairSaid, pairOf, invertSaid, invertOf, composeSaid, composeOf}
-use Rattle.mapping.specs.Bijections.Numbers.{good-columns, pair-passed, pair-passes, invert-passes, invert-disagreeing, compose-passed}
-use Rattle.mapping.specs.Bijections.Laws.{paired-agrees, paired-again, inverse-agrees, inverse-inverse, composite-agrees}
+use Rattle.mapping.specs.Bijections.{paired, inverse, composite, Renamed, pairSaid, pairOf, invertSaid, invertOf}
+use Rattle.mapping.specs.Bijections.{composeSaid, composeOf}
+use Rattle.mapping.specs.Bijections.Numbers.{good-columns, pair-passed, pair-passes, invert-passes}
+use Rattle.mapping.specs.Bijections.Numbers.{invert-disagreeing, compose-passed}
+use Rattle.mapping.specs.Bijections.Laws.{paired-agrees, paired-again, inverse-agrees, inverse-inverse}
+use Rattle.mapping.specs.Bijections.Laws.{composite-agrees}
 
 -- the columns of a bijection agree
 abbrev pub Agrees : Bijection → Type 0
 Agrees b = Agree (b .forward) (b .backward)
 
 -- an answer is the new bijection where it is accepted, and else the old one
-by-agrees : (said : Said) (new old : Bijection) → ((values : List ℕ) → said ≡ accepts values → Agrees new) → Agrees old → Agrees (bijectionBy said new old)
+by-agrees : (said : Said) (new old : Bijection) → ((values : List ℕ) → said ≡ accepts values → Agrees new) → Agrees old
+    → Agrees (newBy said new old)
 by-agrees (accepts values) new old h s = h values refl
 by-agrees (refuses number values) new old h s = s
 
-pub pair-keeps : (b : Bijection) (a c : ℕ) → length (b .forward) ≡ 256 → length (b .backward) ≡ 256 → a < 256 → c < 256 → Agrees b → Agrees (pairOf b a c .bijection)
+pub pair-keeps : (b : Bijection) (a c : ℕ) → length (b .forward) ≡ 256 → length (b .backward) ≡ 256 → a < 256 → c < 256
+    → Agrees b → Agrees (pairOf b a c .bijection)
 unfolding pairOf
-pair-keeps b a c lf lg ha hc s = by-agrees (pairSaid b a c) (paired b a c) b (λ values z. paired-agrees b a c lf lg ha hc (pair-passed b a c values z)) s
+pair-keeps b a c lf lg ha hc s =
+    by-agrees (pairSaid b a c) (paired b a c) b
+    (λ values z. paired-agrees b a c lf lg ha hc (pair-passed b a c values z)) s
 
 pub invert-keeps : (b : Bijection) → Agrees b → Agrees (invertOf b .bijection)
 unfolding invertOf
@@ -35,7 +43,8 @@ invert-keeps b s = by-agrees (invertSaid b) (inverse b) b (λ _ _. inverse-agree
 pub compose-keeps : (b d : Bijection) → Agrees b → Agrees (composeOf b d .bijection)
 unfolding composeOf
 compose-keeps b d s =
-    by-agrees (composeSaid b d) (composite b d) b (λ values z. composite-agrees b d (compose-passed b d values z .0) (compose-passed b d values z .1)) s
+    by-agrees (composeSaid b d) (composite b d) b
+    (λ values z. composite-agrees b d (compose-passed b d values z .0) (compose-passed b d values z .1)) s
 
 -- inverting twice
 abbrev inverted : Bijection → Bijection
@@ -56,7 +65,11 @@ invert-twice b = go (good-columns b)
     go (fails n) = ap inverted (invert-bad b n) ∙ invert-bad b n
 
 -- pairing the same pair again is accepted and changes nothing
-pub pair-again : (b : Bijection) (a c : ℕ) → a < 256 → c < 256 → Agrees b → getD (b .forward) a 0 ≡ c → pairOf b a c ≡ record { said = accepts []; bijection = b }
+pub pair-again : (b : Bijection) (a c : ℕ) → a < 256 → c < 256 → Agrees b → getD (b .forward) a 0 ≡ c
+    → pairOf b a c ≡ record { said = accepts []; bijection = b }
 unfolding pairOf
 pair-again b a c ha hc s e =
-    rw (pair-passes b a c (record { agreed = s; image-free = inr e; preimage-free = inr (s .same a ha c hc .0 e) }), paired-again b a c s ha hc e)
+    rw (
+      pair-passes b a c (record { agreed = s; image-free = inr e; preimage-free = inr (s .same a ha c hc .0 e) }),
+      paired-again b a c s ha hc e,
+    )

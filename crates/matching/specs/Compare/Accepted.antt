@@ -8,11 +8,14 @@ use Prim.Native.Nat.{ℕ, _*_}
 use native.Mathlib.Nat.{mul-le-mul-right}
 use native.Mathlib.Omega.{arith}
 use lib.ListN.{length}
-use Rattle.theory.specs.Test.{says-true, is-true}
+use Rattle.theory.specs.Test.Laws.{says-true, is-true}
 use Rattle.theory.specs.Match.{Answer, matched, mismatched}
-use Rattle.shapes.specs.Said.{accepts, refuses, check, outcomeSaid, saidValues, then-stopped, then-both, check-true}
-use Rattle.shapes.specs.Questions.{Question, shapeSaid, Posed, posed, posed-said}
-use Rattle.shapes.specs.Shapes.{cornerInside, corner-inside, product-le}
+use Rattle.shapes.specs.Said.{accepts, refuses, check, outcomeSaid, saidValues}
+use Rattle.shapes.specs.Said.Laws.{then-stopped, then-both, check-true}
+use Rattle.shapes.specs.Questions.{Question, shapeSaid, Posed}
+use Rattle.shapes.specs.Questions.Laws.{posed, posed-said}
+use Rattle.shapes.specs.Shapes.{cornerInside}
+use Rattle.shapes.specs.Shapes.Laws.{corner-inside, product-le}
 use Rattle.shapes.specs.declared.refusals.Refusal.{Refusal}
 use Rattle.shapes.specs.declared.refusals.Outcome.{Outcome}
 use Rattle.shapes.specs.declared.refusals.Outcome.the-variants.{Refused}
@@ -21,20 +24,31 @@ use Rattle.matching.specs.Compare.{CornerIn, verdictSaid, verdictOf, ans
 
 -- the window of a question's size at a corner
 abbrev pub placeOf : Question → ℕ → ℕ → WindowPlace
-placeOf q row column = record { columns = q .text .columns; row = row; column = column; height = q .pattern .rows; width = q .pattern .columns }
+placeOf q row column =
+    record {
+      columns = q .text .columns;
+      row = row;
+      column = column;
+      height = q .pattern .rows;
+      width = q .pattern
+          .columns;
+    }
 
 module _ (q : Question) (row column : ℕ) where
   -- each number where its test fails and the earlier ones pass
-  pub place-stopped : (o : Outcome) (why : Refusal) → o ≡ Refused why → outcomeSaid o ≡ shapeSaid q → outcomeSaid o ≡ placeSaid q row column
+  pub place-stopped : (o : Outcome) (why : Refusal) → o ≡ Refused why → outcomeSaid o ≡ shapeSaid q
+      → outcomeSaid o ≡ placeSaid q row column
   unfolding placeSaid
   place-stopped o why e d = then-stopped o why (shapeSaid q) _ e d
 
   module _ (shape : shapeSaid q ≡ accepts []) where
-    pub place-refused : cornerInside (q .text .rows) (q .text .columns) (q .pattern .rows) (q .pattern .columns) row column ≡ false → refuses 5 [] ≡ placeSaid q row column
+    pub place-refused : cornerInside (q .text .rows) (q .text .columns) (q .pattern .rows) (q .pattern .columns) row
+        column ≡ false → refuses 5 [] ≡ placeSaid q row column
     unfolding placeSaid
     place-refused e = rw (shape, e)
 
-    pub place-accepted : cornerInside (q .text .rows) (q .text .columns) (q .pattern .rows) (q .pattern .columns) row column ≡ true → accepts [] ≡ placeSaid q row column
+    pub place-accepted : cornerInside (q .text .rows) (q .text .columns) (q .pattern .rows) (q .pattern .columns) row
+        column ≡ true → accepts [] ≡ placeSaid q row column
     unfolding placeSaid
     place-accepted e = rw (shape, e)
 
@@ -46,18 +60,25 @@ module _ (q : Question) (row column : ℕ) where
   pub place-passed : (values : List ℕ) → placeSaid q row column ≡ accepts values → Askable
   unfolding placeSaid
   place-passed values e =
-      let a = then-both (shapeSaid q) (check (cornerInside (q .text .rows) (q .text .columns) (q .pattern .rows) (q .pattern .columns) row column) 5) values e in
+      let a = then-both (shapeSaid q) (check
+      (cornerInside (q .text .rows) (q .text .columns) (q .pattern .rows) (q .pattern .columns) row column) 5) values e
+      in
       record {
         posed-is = posed q (a .0 .0) (a .0 .1);
-        corner = says-true (corner-inside (q .text .rows) (q .text .columns) (q .pattern .rows) (q .pattern .columns) row column) (check-true _ 5 [] values (a .1));
+        corner =
+            says-true (corner-inside (q .text .rows) (q .text .columns) (q .pattern .rows) (q .pattern .columns) row
+            column) (check-true _ 5 [] values (a .1));
       }
 
   pub place-passes : Askable → placeSaid q row column ≡ accepts []
   place-passes a =
-      sym (place-accepted (posed-said q (a .posed-is)) (is-true (corner-inside (q .text .rows) (q .text .columns) (q .pattern .rows) (q .pattern .columns) row column) (a .corner)))
+      sym (place-accepted (posed-said q (a .posed-is))
+      (is-true (corner-inside (q .text .rows) (q .text .columns) (q .pattern .rows) (q .pattern .columns) row column)
+      (a .corner)))
 
   -- then the window lies in the text, and the pattern has its size
-  pub window-placed : Askable → Placed (q .text .cells) (placeOf q row column) × (length (q .pattern .cells) ≡ q .pattern .rows * q .pattern .columns)
+  pub window-placed : Askable → Placed (q .text .cells) (placeOf q row column)
+      × (length (q .pattern .cells) ≡ q .pattern .rows * q .pattern .columns)
   window-placed a =
       let s = a .posed-is .shape in
       let sides = s .sized .sides in
@@ -67,7 +88,13 @@ module _ (q : Question) (row column : ℕ) where
           tall = sides .height-good .positive;
           down = omega (arith, s .cells-is, mul-le-mul-right (q .text .columns) (corner .row-le));
           across = corner .column-le;
-          small = omega (arith, s .cells-is, product-le (q .text .rows) (q .text .columns) 255 255 (sides .rows-good .small) (sides .columns-good .small));
+          small =
+              omega (
+                arith,
+                s .cells-is,
+                product-le (q .text .rows) (q .text .columns) 255 255 (sides .rows-good .small)
+                    (sides .columns-good .small),
+              );
         },
         a .posed-is .size,
       )
@@ -76,8 +103,13 @@ module _ (q : Question) (row column : ℕ) where
   pub window-accepted-iff : ((values : List ℕ) × (windowSaid q row column ≡ accepts values)) ↔ Askable
   unfolding windowSaid
   window-accepted-iff = (
-    (λ e. let a = then-both (placeSaid q row column) (verdictSaid (verdictOf (answerIn q row column))) (e .0) (e .1) in place-passed (a .0 .0) (a .0 .1)),
-    (λ a. (saidValues (verdictSaid (verdictOf (answerIn q row column))), rw (place-passes a) (answered (answerIn q row column)))),
+    (λ e. let a = then-both (placeSaid q row column) (verdictSaid (verdictOf (answerIn q row column))) (e .0) (e .1) in
+        place-passed (a .0 .0) (a .0 .1)),
+    (λ a. (
+      saidValues (verdictSaid (verdictOf (answerIn q row column))),
+      rw (place-passes a)
+          (answered (answerIn q row column)),
+    )),
   )
     where
       answered : (a : Answer) → verdictSaid (verdictOf a) ≡ accepts (saidValues (verdictSaid (verdictOf a)))

@@ -1,13 +1,14 @@
--- The positions of a window: the next one in the same row and in the row below, without a division; that every one is read inside the text; and what
--- forming a place asks.
+-- The positions of a window: the next one in the same row and in the row below, without a division; that every one is
+-- read inside the text; and what forming a place asks.
 -- Assumes nothing.
 use mathlib.Core.Path.{_≡_, _∙_, ap}
 use mathlib.Core.List.{List}
 use Prim.Native.Nat.{ℕ, suc, _+_, _*_, _/_, _%_, _≤_, _<_}
-use native.Mathlib.Nat.{add-zero, suc-mul, mul-le-mul-right, le-mul-of-pos-right, mul-le-mul, mod-lt, div-lt-iff-lt-mul, div-add-mod', mul-add-div-right, mul-add-mod-self-right, div-eq-of-lt, mod-eq-of-lt}
+use native.Mathlib.Nat.{add-zero, suc-mul, mul-le-mul-right, le-mul-of-pos-right, mul-le-mul, mod-lt, div-lt-iff-lt-mul}
+use native.Mathlib.Nat.{div-add-mod', mul-add-div-right, mul-add-mod-self-right, div-eq-of-lt, mod-eq-of-lt}
 use native.Mathlib.Omega.{arith}
 use Rattle.view.specs.Inside.{CellInside}
-use Rattle.matching.specs.Compare.{cellsOf, Placed}
+use Rattle.matching.specs.Compare.{cellCount, Placed}
 use Rattle.shapes.specs.declared.windows.WindowPlace.{WindowPlace}
 
 -- q rows of w and r cells more are position q w + r
@@ -47,7 +48,8 @@ below-mod w p pos h =
 module _ (text : List ℕ) (v : WindowPlace) where
   -- what a loop over the rows that keeps a row's first place asks: the places of the first row are small
   pub start-small : Placed text v → v .row * v .columns + v .columns ≤ 65025
-  start-small s = omega (arith, suc-mul (v .row) (v .columns), mul-le-mul-right (v .columns) first-row, s .down, s .small)
+  start-small s =
+      omega (arith, suc-mul (v .row) (v .columns), mul-le-mul-right (v .columns) first-row, s .down, s .small)
     where
       first-row : suc (v .row) ≤ v .row + v .height
       first-row = omega (arith, s .tall)
@@ -57,11 +59,17 @@ module _ (text : List ℕ) (v : WindowPlace) where
   columns-some s = omega (arith, s .some, s .across)
 
   -- every position is read inside the text
-  pub cell-inside : Placed text v → (p : ℕ) → p < cellsOf v → CellInside text (v .columns) (v .row) (v .column) (v .width) p
-  cell-inside s p h =
+  pub position-inside : Placed text v → (p : ℕ) → p < cellCount v
+      → CellInside text (v .columns) (v .row) (v .column) (v .width) p
+  position-inside s p h =
       let row : p / v .width < v .height = div-lt-iff-lt-mul (s .some) .1 h in
-      let down : (v .row + p / v .width + 1) * v .columns ≤ (v .row + v .height) * v .columns = mul-le-mul-right (v .columns) (omega arith) in
-      record { some = s .some; broad = columns-some s; within = omega (arith, mod-lt p (s .some), one-more, s .down, s .across) }
+      let down : (v .row + p / v .width + 1) * v .columns ≤ (v .row + v .height) * v .columns = mul-le-mul-right
+      (v .columns) (omega arith) in
+      record {
+        some = s .some;
+        broad = columns-some s;
+        within = omega (arith, mod-lt p (s .some), one-more, s .down, s .across);
+      }
     where
       one-more : (v .row + p / v .width + 1) * v .columns ≡ (v .row + p / v .width) * v .columns + v .columns
       one-more = ap (λ (x : ℕ). x * v .columns) (omega arith) ∙ suc-mul (v .row + p / v .width) (v .columns)
@@ -70,8 +78,8 @@ module _ (text : List ℕ) (v : WindowPlace) where
   pub rows-small : Placed text v → v .row + v .height ≤ 65025
   rows-small s = omega (arith, le-mul-of-pos-right (v .row + v .height) (columns-some s), s .down, s .small)
 
-  pub cells-small : Placed text v → cellsOf v ≤ 65025
-  cells-small s = omega (arith, mul-le-mul tall-le wide-le, s .down, s .small)
+  pub positions-small : Placed text v → cellCount v ≤ 65025
+  positions-small s = omega (arith, mul-le-mul tall-le wide-le, s .down, s .small)
     where
       tall-le : v .height ≤ v .row + v .height
       tall-le = omega arith

@@ -1,5 +1,6 @@
--- A window row by row, with no division: where row i begins in the text and in the pattern, that both rows are there, and that their cells are the
--- window's and the pattern's by position. A loop over the rows lends each as a part of its list.
+-- A window row by row, with no division: where row i begins in the text and in the pattern, that both rows are there,
+-- and that their cells are the window's and the pattern's by position. A loop over the rows lends each as a part of its
+-- list.
 -- Assumes nothing.
 use mathlib.Core.Path.{_≡_, refl, sym, _∙_, ap}
 use mathlib.Core.List.{List}
@@ -9,9 +10,10 @@ use native.Mathlib.Numerals.{add-one}
 use native.Mathlib.Omega.{arith}
 use lib.ListN.{length, getD, take, drop, length-take, length-drop}
 use lib.Seq.{getD-take, getD-drop}
-use Rattle.shapes.specs.Windows.{rowCells, row-cells-is, window-cell}
+use Rattle.shapes.specs.Windows.{rowCells}
+use Rattle.shapes.specs.Windows.Laws.{row-cells-is, window-cell}
 use Rattle.view.specs.Inside.{RowInside}
-use Rattle.matching.specs.Compare.{patternAt, windowOf, cellsOf, Placed}
+use Rattle.matching.specs.Compare.{patternAt, windowOf, cellCount, Placed}
 use Rattle.shapes.specs.declared.windows.WindowPlace.{WindowPlace}
 
 -- the part of a list that the code lends, from a place to n further on
@@ -29,7 +31,7 @@ module _ (v : WindowPlace) where
   row-first start e = record { within = omega arith; start-is = rw add-zero e; from-is = rw zero-mul }
 
   -- all rows are behind
-  pub rows-behind : (i start from : ℕ) → v .height ≤ i → RowAt v i start from → from ≡ cellsOf v
+  pub rows-behind : (i start from : ℕ) → v .height ≤ i → RowAt v i start from → from ≡ cellCount v
   rows-behind i start from h here =
       let all : i ≡ v .height = omega (arith, here .within) in
       here .from-is ∙ ap (λ (x : ℕ). x * v .width) all
@@ -54,10 +56,11 @@ module _ (v : WindowPlace) where
         }
 
     -- both rows are there
-    module _ (text pattern : List ℕ) (placed : Placed text v) (cells-are : length pattern ≡ cellsOf v) where
+    module _ (text pattern : List ℕ) (placed : Placed text v) (cells-are : length pattern ≡ cellCount v) where
       pub row-fits : start + v .width ≤ length text
       row-fits =
-          let down : (v .row + i + 1) * v .columns ≤ (v .row + v .height) * v .columns = mul-le-mul-right (v .columns) (omega arith) in
+          let down : (v .row + i + 1) * v .columns ≤ (v .row + v .height) * v .columns = mul-le-mul-right (v .columns)
+          (omega arith) in
           omega (arith, one-more, here .start-is, placed .across, placed .down)
 
       pub cells-fit : from + v .width ≤ length pattern
@@ -65,41 +68,38 @@ module _ (v : WindowPlace) where
           let down : (i + 1) * v .width ≤ v .height * v .width = mul-le-mul-right (v .width) (omega arith) in
           omega (arith, next-from, here .from-is)
 
-      -- the first n cells of row i lie in the text
-      pub row-inside : (n : ℕ) → n ≤ v .width → RowInside text (v .columns) (v .row) (v .column) n i
-      row-inside n part = record { broad = omega (arith, placed .some, placed .across); within = omega (arith, here .start-is, row-fits) }
+      -- row i lies in the text
+      pub view-row-inside : RowInside text (v .columns) (v .row) (v .column) (v .width) i
+      view-row-inside =
+          record {
+            broad = omega (arith, placed .some, placed .across);
+            within = omega (arith, here .start-is, row-fits);
+          }
 
-      -- the first n cells of both rows
-      module _ (n : ℕ) (part : n ≤ v .width) (row cells : List ℕ) (er : row ≡ take n (drop start text)) (ep : cells ≡ take n (drop from pattern)) where
-        pub length-part : length row ≡ n
-        length-part = rw (er, length-take, length-drop) (omega (arith, row-fits))
+      module _ (row cells : List ℕ) (er : row ≡ take (v .width) (drop start text))
+          (ep : cells ≡ take (v .width) (drop from pattern)) where
+        pub length-view-row : length row ≡ v .width
+        length-view-row = rw (er, length-take, length-drop) (omega (arith, row-fits))
 
         -- they are as many as each other
-        pub same-part : length cells ≡ length row
-        same-part = rw (ep, length-take, length-drop) (omega (arith, cells-fit, length-part))
+        pub same-length : length cells ≡ length row
+        same-length = rw (ep, length-take, length-drop) (omega (arith, cells-fit, length-view-row))
 
         -- and have the symbols of pattern and window
-        pub part-pattern : (j : ℕ) → j < n → getD cells j 0 ≡ patternAt pattern (from + j)
-        part-pattern j h = rw (ep, getD-take n (drop from pattern) j 0 h) (getD-drop from pattern j 0)
-
-        pub part-window : (j : ℕ) → j < n → getD row j 0 ≡ windowOf text v (from + j)
-        part-window j h =
-            rw (er, getD-take n (drop start text) j 0 h, here .from-is, window-cell text (v .columns) (v .row) (v .column) (v .width) i j (omega arith), ← here .start-is)
-            (getD-drop start text j 0)
-
-      -- both rows whole
-      module _ (row cells : List ℕ) (er : row ≡ take (v .width) (drop start text)) (ep : cells ≡ take (v .width) (drop from pattern)) where
-        pub length-row : length row ≡ v .width
-        length-row = length-part (v .width) (omega arith) row cells er ep
-
-        pub same-length : length cells ≡ length row
-        same-length = same-part (v .width) (omega arith) row cells er ep
-
         pub row-pattern : (j : ℕ) → j < v .width → getD cells j 0 ≡ patternAt pattern (from + j)
-        row-pattern = part-pattern (v .width) (omega arith) row cells er ep
+        row-pattern j h = rw (ep, getD-take (v .width) (drop from pattern) j 0 h) (getD-drop from pattern j 0)
 
         pub row-window : (j : ℕ) → j < v .width → getD row j 0 ≡ windowOf text v (from + j)
-        row-window = part-window (v .width) (omega arith) row cells er ep
+        row-window j h =
+            rw (
+              er,
+              getD-take (v .width) (drop start text) j 0 h,
+              here .from-is,
+              window-cell text (v .columns) (v .row)
+                  (v .column) (v .width) i j h,
+              ← here .start-is,
+            )
+            (getD-drop start text j 0)
 
 -- ---- rows that are read by their number, so that no place is kept for them
 
@@ -107,14 +107,17 @@ module _ (v : WindowPlace) where
 abbrev pub rowStart : WindowPlace → ℕ → ℕ
 rowStart v i = (v .row + i) * v .columns + v .column
 
--- the first n cells of row i, as the view reads them
-pub row-read : (text : List ℕ) (v : WindowPlace) (i n : ℕ) (row : List ℕ) → row ≡ rowCells text (v .columns) (v .row + i) (v .column) n → row ≡ take n (drop (rowStart v i) text)
-row-read text v i n row e = e ∙ row-cells-is text (v .columns) (v .row + i) (v .column) n
+-- row i, as the view reads it
+pub row-read : (text : List ℕ) (v : WindowPlace) (i : ℕ) (row : List ℕ)
+    → row ≡ rowCells text (v .columns) (v .row + i) (v .column) (v .width)
+    → row ≡ take (v .width) (drop (rowStart v i) text)
+row-read text v i row e = e ∙ row-cells-is text (v .columns) (v .row + i) (v .column) (v .width)
 
 pub read-first : (v : WindowPlace) → RowAt v 0 (rowStart v 0) 0
 read-first v = record { within = omega arith; start-is = refl; from-is = rw zero-mul }
 
-pub read-below : (v : WindowPlace) (i from : ℕ) → i < v .height → RowAt v i (rowStart v i) from → RowAt v (i + 1) (rowStart v (i + 1)) (from + v .width)
+pub read-below : (v : WindowPlace) (i from : ℕ) → i < v .height → RowAt v i (rowStart v i) from
+    → RowAt v (i + 1) (rowStart v (i + 1)) (from + v .width)
 read-below v i from inside here =
     let r = row-below v i (rowStart v i) from inside here in
     record { within = r .within; start-is = refl; from-is = r .from-is }

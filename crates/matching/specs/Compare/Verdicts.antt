@@ -1,59 +1,83 @@
--- From the scan to the answer: verdict and bijection where it stopped and where it did not, and the whole answer refused and given.
+-- From the first end to the answer: verdict and bijection where a mismatch ends and where none does, and the whole
+-- answer refused and given.
 -- Assumes nothing.
 use mathlib.Core.Path.{_≡_, sym, _∙_, ap, ap₂}
 use mathlib.Core.List.{List, []}
 use Prim.Native.Nat.{ℕ, _≤_, _<_}
 use native.Mathlib.Omega.{arith}
 use lib.Dec.{eqb}
-use Rattle.theory.specs.Match.{earliest, firstEnd, mismatchEnding, answerOf, column}
+use borrow.Author.Tests.{lt-ltb, le-ltb}
+use Rattle.theory.specs.Test.Laws.{pick-true, pick-false}
+use Rattle.theory.specs.Match.{firstEnd, matched, mismatched, mismatchEnding, answerOf, column}
+use Rattle.theory.specs.Match.Even.{earliest-le}
+use Rattle.prefixes.specs.Prefixes.{EndIs}
+use Rattle.prefixes.specs.Prefixes.Ends.{inside-earlier, answer-of}
 use Rattle.shapes.specs.Said.{accepts, outcomeSaid}
 use Rattle.shapes.specs.Questions.{Question}
 use Rattle.shapes.specs.declared.refusals.Outcome.{Outcome}
 use Rattle.shapes.specs.declared.refusals.Outcome.the-variants.{Refused as RefusedOutcome}
 use Rattle.shapes.specs.declared.refusals.Refusal.{Refusal}
 use Rattle.mapping.specs.Bijections.{emptyBijection}
-use Rattle.matching.specs.Compare.{verdictOf, bijectionOf, bijectionIn, answerIn, placeSaid, windowSaid, told, oneWindowOf}
-use Rattle.matching.specs.Compare.Scans.{end-le, answer-mismatch, answer-match}
+use Rattle.matching.specs.Compare.{verdictOf, bijectionOf, bijectionAt, answerIn, placeSaid, windowSaid, told}
+use Rattle.matching.specs.Compare.{oneWindowOf, mismatchBetween}
 use Rattle.mapping.specs.declared.bijections.Bijection.{Bijection}
-use Rattle.matching.specs.declared.compare.Verdict.{Verdict}
-use Rattle.matching.specs.declared.compare.Verdict.the-variants.{Match, Mismatch, Refused}
+use Rattle.matching.specs.declared.compare.Verdict.the-variants.{Match, Refused}
 use Rattle.matching.specs.declared.compare.WindowAnswer.{WindowAnswer}
 
 module _ (m w : ℕ → ℕ) where
-  -- the verdict that names the earlier cell
-  pub verdict-ending : (p q : ℕ) → q ≡ earliest m w p → Mismatch (eqb (m q) (m p)) q p ≡ verdictOf (mismatchEnding m w p)
-  unfolding mismatchEnding
-  verdict-ending p q e = ap (λ (i : ℕ). Mismatch (eqb (m i) (m p)) i p) e
+  -- the answer from where a mismatch ends first
+  pub answer-mismatch : (p n : ℕ) → p ≡ firstEnd m w n → p < n → answerOf m w n ≡ mismatchEnding m w p
+  unfolding answerOf
+  answer-mismatch p n e l = pick-true _ _ (lt-ltb (firstEnd m w n) n (rw (← e) l)) ∙ ap (mismatchEnding m w) (sym e)
 
-  -- where the scan stopped
-  pub stopped-verdict : (p n : ℕ) (v : Verdict) → p ≡ firstEnd m w n → p < n → v ≡ verdictOf (mismatchEnding m w p) → v ≡ verdictOf (answerOf m w n)
-  stopped-verdict p n v e l d = d ∙ ap verdictOf (sym (answer-mismatch m w p n e l))
+  pub answer-match : (p n : ℕ) → p ≡ firstEnd m w n → n ≤ p → answerOf m w n ≡ matched
+  unfolding answerOf
+  answer-match p n e l = pick-false _ _ (le-ltb (firstEnd m w n) n (rw (← e) l))
 
-  pub stopped-bijection : (p n : ℕ) (b : Bijection) → p ≡ firstEnd m w n → p < n → b ≡ emptyBijection → b ≡ bijectionOf m w n (answerOf m w n)
-  unfolding bijectionOf mismatchEnding
-  stopped-bijection p n b e l d = d ∙ sym (ap (bijectionOf m w n) (answer-mismatch m w p n e l))
+module _ (m w : ℕ → ℕ) (n end earlier : ℕ) (found : EndIs m w n end earlier) where
+  -- where a mismatch ends
+  module _ (h : end < n) where
+    pub earlier-inside : earlier < n
+    earlier-inside = omega (arith, inside-earlier m w n end earlier found h, earliest-le m w end)
 
-  -- where it passed all positions
-  pub passed-verdict : (p n : ℕ) → p ≡ firstEnd m w n → n ≤ p → Match ≡ verdictOf (answerOf m w n)
-  passed-verdict p n e l = ap verdictOf (sym (answer-match m w p n e l))
+    stopped : answerOf m w n ≡ mismatched (eqb (m earlier) (m end)) earlier end
+    stopped = answer-of m w n end earlier found ∙ pick-true _ _ (lt-ltb end n h)
 
-  pub passed-bijection : (p n : ℕ) (f g : List ℕ) → p ≡ firstEnd m w n → n ≤ p → f ≡ column m w p → g ≡ column w m p
-      → record { forward = f; backward = g } ≡ bijectionOf m w n (answerOf m w n)
-  unfolding bijectionOf
-  passed-bijection p n f g e l df dg =
-      let all : p ≡ n = omega (arith, end-le m w n) in
-      ap₂ (λ (x y : List ℕ). record { forward = x; backward = y }) (df ∙ ap (column m w) all) (dg ∙ ap (column w m) all)
-      ∙ sym (ap (bijectionOf m w n) (answer-match m w p n e l))
+    pub stopped-verdict : mismatchBetween m earlier end ≡ verdictOf (answerOf m w n)
+    stopped-verdict = ap verdictOf (sym stopped)
+
+    pub stopped-bijection : (b : Bijection) → b ≡ emptyBijection → b ≡ bijectionOf m w n (answerOf m w n)
+    unfolding bijectionOf
+    stopped-bijection b e = e ∙ sym (ap (bijectionOf m w n) stopped)
+
+  -- where none does
+  module _ (h : n ≤ end) where
+    pub end-past : n ≤ firstEnd m w n
+    end-past = omega (arith, found .end-is)
+
+    passed : answerOf m w n ≡ matched
+    passed = answer-match m w end n (found .end-is) h
+
+    pub passed-verdict : Match ≡ verdictOf (answerOf m w n)
+    passed-verdict = ap verdictOf (sym passed)
+
+    pub passed-bijection : (f g : List ℕ) → f ≡ column m w n → g ≡ column w m n
+        → record { forward = f; backward = g } ≡ bijectionOf m w n (answerOf m w n)
+    unfolding bijectionOf
+    passed-bijection f g df dg =
+        ap₂ (λ (x y : List ℕ). record { forward = x; backward = y }) df dg ∙ sym (ap (bijectionOf m w n) passed)
 
 -- ---- the whole answer
 
 module _ (q : Question) (row column : ℕ) where
-  pub told-refused : (o : Outcome) (why : Refusal) (b : Bijection) → o ≡ RefusedOutcome why → outcomeSaid o ≡ placeSaid q row column → b ≡ emptyBijection
+  pub told-refused : (o : Outcome) (why : Refusal) (b : Bijection) → o ≡ RefusedOutcome why
+      → outcomeSaid o ≡ placeSaid q row column → b ≡ emptyBijection
       → told (record { verdict = Refused why; bijection = b }) ≡ oneWindowOf q row column
   unfolding oneWindowOf windowSaid
   told-refused o why b e d f = rw (← d, e, f)
 
-  pub told-answered : (r : WindowAnswer) → placeSaid q row column ≡ accepts [] → r .verdict ≡ verdictOf (answerIn q row column)
-      → r .bijection ≡ bijectionIn q row column → told r ≡ oneWindowOf q row column
+  pub told-answered : (r : WindowAnswer) → placeSaid q row column ≡ accepts []
+      → r .verdict ≡ verdictOf (answerIn q row column)
+      → r .bijection ≡ bijectionAt q row column → told r ≡ oneWindowOf q row column
   unfolding oneWindowOf windowSaid
   told-answered r z e d = rw (z, e, d)

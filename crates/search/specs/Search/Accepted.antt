@@ -1,4 +1,5 @@
--- The search's refusals in their order: each number where its test fails and the earlier ones pass, and what a search that is not refused has.
+-- The search's refusals in their order: each number where its test fails and the earlier ones pass, and what a search
+-- that is not refused has.
 -- Assumes nothing.
 use mathlib.Core.Path.{_≡_, refl, sym, _∙_, ap}
 use mathlib.Core.Bool.{Bool}
@@ -7,14 +8,17 @@ use Prim.Native.Nat.{ℕ, _≤_, _<_}
 use lib.Dec.{leb}
 use lib.ListN.{length, getD}
 use borrow.Author.Tests.{le-leb, lt-leb}
-use Rattle.theory.specs.Test.{both, Tested, both-tested, le-tested, says-true}
-use Rattle.shapes.specs.Said.{overFront, Said, accepts, refuses, _then_, check, saidValues, outcomeSaid, refusalSaid, then-stopped, then-both, check-passed, check-true, not-accepted}
-use Rattle.shapes.specs.Questions.{Question, shapeSaid, stripOf, windowsOf, posed, posed-said}
+use Rattle.theory.specs.Test.{both, Tested}
+use Rattle.theory.specs.Test.Laws.{both-tested, le-tested, says-true}
+use Rattle.shapes.specs.Said.{overFront, Said, accepts, refuses, _then_, check, saidValues, outcomeSaid, refusalSaid}
+use Rattle.shapes.specs.Said.Laws.{then-stopped, then-both, check-passed, check-true, not-accepted}
+use Rattle.shapes.specs.Questions.{Question, shapeSaid, linksNeeded, windowsOf}
+use Rattle.shapes.specs.Questions.Laws.{posed, posed-said}
 use Rattle.shapes.specs.declared.refusals.Refusal.{Refusal}
 use Rattle.shapes.specs.declared.refusals.Outcome.{Outcome}
 use Rattle.shapes.specs.declared.refusals.Outcome.the-variants.{Refused}
 use Rattle.flags.specs.Flags.{Rooms, roomsOf, RoomFor}
-use Rattle.search.specs.Listing.{foundIn, refusedIn, neededLength, searchListing}
+use Rattle.writer.specs.Listing.{foundIn, refusedIn, neededLength, searchListing}
 use Rattle.search.specs.Search.{Lent, Done, roomSaid, listedSaid, searchSaid, listedOf, stopped, searchOf}
 
 -- ---- 2, 3, 4, 9, 10
@@ -27,49 +31,63 @@ module _ (q : Question) (w : Rooms) where
   windows-tested = both-tested (le-tested (windowsOf q) (w .counts)) (le-tested (windowsOf q) (w .flags))
 
   -- refused by the shape
-  pub room-stopped : (o : Outcome) (why : Refusal) → o ≡ Refused why → outcomeSaid o ≡ shapeSaid q → outcomeSaid o ≡ roomSaid q w
+  pub room-stopped : (o : Outcome) (why : Refusal) → o ≡ Refused why → outcomeSaid o ≡ shapeSaid q
+      → outcomeSaid o ≡ roomSaid q w
   unfolding roomSaid
   room-stopped o why e d = then-stopped o why (shapeSaid q) _ e d
 
   module _ (shape : shapeSaid q ≡ accepts []) where
-    pub room-links-refused : w .links < stripOf q → refuses 9 [] ≡ roomSaid q w
+    pub room-links-refused : w .links < linksNeeded q → refuses 9 [] ≡ roomSaid q w
     unfolding roomSaid
-    room-links-refused h = rw (shape, lt-leb (stripOf q) (w .links) h)
+    room-links-refused h = rw (shape, lt-leb (linksNeeded q) (w .links) h)
 
-    module _ (links : stripOf q ≤ w .links) where
+    module _ (links : linksNeeded q ≤ w .links) where
       pub room-counts-refused : w .counts < windowsOf q → refuses 10 [] ≡ roomSaid q w
       unfolding roomSaid
-      room-counts-refused h = rw (shape, le-leb (stripOf q) (w .links) links, lt-leb (windowsOf q) (w .counts) h)
+      room-counts-refused h = rw (shape, le-leb (linksNeeded q) (w .links) links, lt-leb (windowsOf q) (w .counts) h)
 
       pub room-flags-refused : windowsOf q ≤ w .counts → w .flags < windowsOf q → refuses 10 [] ≡ roomSaid q w
       unfolding roomSaid
       room-flags-refused k h =
-          rw (shape, le-leb (stripOf q) (w .links) links, le-leb (windowsOf q) (w .counts) k, lt-leb (windowsOf q) (w .flags) h)
+          rw (
+            shape,
+            le-leb (linksNeeded q) (w .links) links,
+            le-leb (windowsOf q) (w .counts) k,
+            lt-leb (windowsOf q)
+                (w .flags) h,
+          )
 
       pub room-accepted : windowsOf q ≤ w .counts → windowsOf q ≤ w .flags → accepts [] ≡ roomSaid q w
       unfolding roomSaid
       room-accepted k h =
-          rw (shape, le-leb (stripOf q) (w .links) links, le-leb (windowsOf q) (w .counts) k, le-leb (windowsOf q) (w .flags) h)
+          rw (
+            shape,
+            le-leb (linksNeeded q) (w .links) links,
+            le-leb (windowsOf q) (w .counts) k,
+            le-leb (windowsOf q)
+                (w .flags) h,
+          )
 
   -- nothing is refused exactly if there is room
   pub room-passed : (returned : List ℕ) → roomSaid q w ≡ accepts returned → RoomFor q w
   unfolding roomSaid
   room-passed returned e =
-      let a = then-both (shapeSaid q) (check (leb (stripOf q) (w .links)) 9 then check windowsGood 10) returned e in
+      let a = then-both (shapeSaid q) (check (leb (linksNeeded q) (w .links)) 9 then check windowsGood 10) returned e in
       let p = posed q (a .0 .0) (a .0 .1) in
-      let l = check-passed (leb (stripOf q) (w .links)) 9 [] (check windowsGood 10) returned (a .1) in
+      let l = check-passed (leb (linksNeeded q) (w .links)) 9 [] (check windowsGood 10) returned (a .1) in
       let k = says-true windows-tested (check-true windowsGood 10 [] returned (l .1)) in
       record {
         shape = p .shape;
         size = p .size;
-        links-room = says-true (le-tested (stripOf q) (w .links)) (l .0);
+        links-room = says-true (le-tested (linksNeeded q) (w .links)) (l .0);
         counts-room = k .0;
         flags-room = k .1;
       }
 
   pub room-passes : RoomFor q w → roomSaid q w ≡ accepts []
   room-passes r =
-      sym (room-accepted (posed-said q (record { shape = r .shape; size = r .size })) (r .links-room) (r .counts-room) (r .flags-room))
+      sym (room-accepted (posed-said q (record { shape = r .shape; size = r .size })) (r .links-room) (r .counts-room)
+      (r .flags-room))
 
 -- ---- the whole search
 
@@ -85,7 +103,8 @@ module _ (q : Question) (l : Lent) where
   unfolding searchOf
   search-goes e = rw e
 
--- a search that is accepted: there was room for everything, its values are those of the windows, and the listing is written
+-- a search that is accepted: there was room for everything, its values are those of the windows, and the listing is
+-- written
 pub record Lists (q : Question) (l : Lent) (found refused size : ℕ) : Type 0 where
   pub room : RoomFor q (roomsOf (l .work))
   pub found-is : found ≡ foundIn q
@@ -101,8 +120,10 @@ values-same a b c x y z e =
     (ap (λ (l : List ℕ). getD l 0 0) v, ap (λ (l : List ℕ). getD l 1 0) v, ap (λ (l : List ℕ). getD l 2 0) v)
 
 module _ (q : Question) (l : Lent) (found refused size : ℕ) where
-  lists-by : (a : Said) → roomSaid q (roomsOf (l .work)) ≡ a → accepts (found ∷ refused ∷ size ∷ []) ≡ stopped a l (listedOf q l) .said
-      → (stopped a l (listedOf q l) ≡ listedOf q l) × RoomFor q (roomsOf (l .work)) × (accepts (found ∷ refused ∷ size ∷ []) ≡ listedOf q l .said)
+  lists-by : (a : Said) → roomSaid q (roomsOf (l .work)) ≡ a
+      → accepts (found ∷ refused ∷ size ∷ []) ≡ stopped a l (listedOf q l) .said
+      → (stopped a l (listedOf q l) ≡ listedOf q l) × RoomFor q (roomsOf (l .work))
+      × (accepts (found ∷ refused ∷ size ∷ []) ≡ listedOf q l .said)
   lists-by (accepts values) d e = (refl, room-passed q (roomsOf (l .work)) values d, e)
   lists-by (refuses number values) d e = absurd (not-accepted number values _ (sym e))
 
@@ -121,11 +142,6 @@ module _ (q : Question) (l : Lent) (found refused size : ℕ) where
         written = ap (λ (d : Done). d .lent .listing) (r .0) ∙ rw (t .0);
       }
 
-  -- and what has room for everything is accepted
-  pub lists-all : RoomFor q (roomsOf (l .work)) → neededLength q ≤ length (l .listing) → searchOf q l .said ≡ accepts (foundIn q ∷ refusedIn q ∷ neededLength q ∷ [])
-  unfolding searchOf listedOf listedSaid
-  lists-all r h = rw (room-passes q (roomsOf (l .work)) r, le-leb (neededLength q) (length (l .listing)) h)
-
 -- what a search says depends on its buffers' lengths alone
 pub said-is : (q : Question) (l : Lent) → searchOf q l .said ≡ searchSaid q (roomsOf (l .work)) (length (l .listing))
 unfolding searchOf searchSaid listedOf
@@ -137,7 +153,8 @@ said-is q l = go (roomSaid q (roomsOf (l .work)))
 
 -- accepted, with room for everything; refused by 11; and back
 module _ (q : Question) (r : Rooms) (listing : ℕ) where
-  pub search-accepted : RoomFor q r → neededLength q ≤ listing → searchSaid q r listing ≡ accepts (foundIn q ∷ refusedIn q ∷ neededLength q ∷ [])
+  pub search-accepted : RoomFor q r → neededLength q ≤ listing
+      → searchSaid q r listing ≡ accepts (foundIn q ∷ refusedIn q ∷ neededLength q ∷ [])
   unfolding searchSaid listedSaid
   search-accepted room h = rw (room-passes q r room, le-leb (neededLength q) listing h)
 
@@ -145,9 +162,11 @@ module _ (q : Question) (r : Rooms) (listing : ℕ) where
   unfolding searchSaid listedSaid
   search-short room h = rw (room-passes q r room, lt-leb (neededLength q) listing h)
 
-  pub search-passed : (values : List ℕ) → searchSaid q r listing ≡ accepts values → RoomFor q r × (neededLength q ≤ listing)
+  pub search-passed : (values : List ℕ) → searchSaid q r listing ≡ accepts values
+      → RoomFor q r × (neededLength q ≤ listing)
   unfolding searchSaid listedSaid
   search-passed values e =
       let a = then-both (roomSaid q r) (listedSaid q listing) values e in
-      let b = check-passed (leb (neededLength q) listing) 11 (neededLength q ∷ []) (accepts (foundIn q ∷ refusedIn q ∷ neededLength q ∷ [])) values (a .1) in
+      let b = check-passed (leb (neededLength q) listing) 11 (neededLength q ∷ [])
+      (accepts (foundIn q ∷ refusedIn q ∷ neededLength q ∷ [])) values (a .1) in
       (room-passed q r (a .0 .0) (a .0 .1), says-true (le-tested (neededLength q) listing) (b .0))

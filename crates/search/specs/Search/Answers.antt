@@ -10,7 +10,7 @@ use Rattle.shapes.specs.Said.{overFront}
 use Rattle.shapes.specs.Questions.{Question}
 use Rattle.shapes.specs.declared.refusals.Refusal.the-variants.{ListingBufferShort}
 use Rattle.flags.specs.Flags.{Work, marked}
-use Rattle.search.specs.Listing.{foundIn, refusedIn, neededLength, searchListing}
+use Rattle.writer.specs.Listing.{foundIn, refusedIn, neededLength, searchListing}
 use Rattle.search.specs.Search.{Lent, done, listedSaid, listedOf}
 use Rattle.search.specs.declared.search.Searched.the-variants.{Listed, Refused}
 
@@ -22,8 +22,10 @@ module _ (q : Question) (l : Lent) (work : Work) (work-is : work ≡ marked q (l
   says-short size e h = rw (work-is, e, lt-leb (neededLength q) (length (l .listing)) (omega (arith, e, h)))
 
   -- room for it
-  pub says-listed : (found refused size : ℕ) (listing : List ℕ) → found ≡ foundIn q → refused ≡ refusedIn q → size ≡ neededLength q
+  pub says-listed : (found refused size : ℕ) (listing : List ℕ) → found ≡ foundIn q → refused ≡ refusedIn q
+      → size ≡ neededLength q
       → size ≤ length (l .listing) → listing ≡ overFront (searchListing q) (l .listing)
       → done (Listed found refused size) (record { work = work; listing = listing }) ≡ listedOf q l
   unfolding listedOf listedSaid
-  says-listed found refused size listing a b e h w = rw (work-is, a, b, e, w, le-leb (neededLength q) (length (l .listing)) (omega (arith, e, h)))
+  says-listed found refused size listing a b e h w =
+      rw (work-is, a, b, e, w, le-leb (neededLength q) (length (l .listing)) (omega (arith, e, h)))

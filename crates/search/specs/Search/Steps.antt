@@ -1,11 +1,13 @@
--- Between the two steps of the search: the flags are there, their totals are those of the windows, and with them the listing's length.
+-- Between the two steps of the search: the flags are there, their totals are those of the windows, and with them the
+-- listing's length.
 -- Assumes nothing.
 use mathlib.Core.Path.{_≡_, _∙_, ap}
 use mathlib.Core.List.{List}
 use Prim.Native.Nat.{ℕ, _*_, _≤_, _<_}
 use native.Mathlib.Omega.{arith}
 use lib.ListN.{length, drop, getD, List·getD-append, length-append, length-drop}
-use Rattle.theory.specs.Table.{table, length-table, getD-table}
+use Rattle.theory.specs.Table.{table}
+use Rattle.theory.specs.Table.Laws.{length-table, getD-table}
 use Rattle.shapes.specs.Said.{overFront}
 use Rattle.shapes.specs.Questions.{Question, asked, windowsOf}
 use Rattle.shapes.specs.Shapes.{across, down}
@@ -13,10 +15,10 @@ use Rattle.grid.specs.Distinct.{distinct}
 use Rattle.shapes.specs.declared.shapes.Shape.{Shape}
 use Rattle.flags.specs.Flags.Strips.{flagOf}
 use Rattle.flags.specs.Flags.{Room, Work, marked, windowFlag}
-use Rattle.search.specs.Listing.{foundIn, refusedIn, listingLength, neededLength, searchListing}
-use Rattle.search.specs.Listing.Totals.{ones, others, ones-found, others-refused}
-use Rattle.search.specs.Listing.Length.{length-listing}
-use Rattle.search.specs.Listing.Windows.{Flagged}
+use Rattle.writer.specs.Listing.{foundIn, refusedIn, listingLength, neededLength, searchListing}
+use Rattle.writer.specs.Listing.Totals.{ones, others, ones-found, others-refused}
+use Rattle.writer.specs.Listing.Length.{length-listing}
+use Rattle.writer.specs.Listing.Windows.{Flagged}
 
 -- the windows found and refused, and the length of their listing
 pub record Totalled (text pattern : List ℕ) (s : Shape) (found refused size : ℕ) : Type 0 where
@@ -25,7 +27,8 @@ pub record Totalled (text pattern : List ℕ) (s : Shape) (found refused size : 
   pub size-is : size ≡ neededLength (asked text pattern s)
 
 -- the flags among what the first step leaves
-pub marked-flags : (q : Question) (w after : Work) → after ≡ marked q w → after .flags ≡ overFront (table (windowFlag q) (windowsOf q)) (w .flags)
+pub marked-flags : (q : Question) (w after : Work) → after ≡ marked q w
+    → after .flags ≡ overFront (table (windowFlag q) (windowsOf q)) (w .flags)
 unfolding marked
 marked-flags q w after e = ap (λ (v : Work). v .flags) e
 
@@ -35,7 +38,8 @@ module _ (text pattern : List ℕ) (s : Shape) (links counts : ℕ) (flags after
   pub flags-long : length after ≡ length flags
   flags-long =
       ap length is
-      ∙ length-append (table (flagOf text pattern s) (down s * across s)) (drop (length (table (flagOf text pattern s) (down s * across s))) flags)
+      ∙ length-append (table (flagOf text pattern s) (down s * across s))
+      (drop (length (table (flagOf text pattern s) (down s * across s))) flags)
       ∙ omega (
         arith,
         length-table (flagOf text pattern s) (down s * across s),
@@ -46,7 +50,8 @@ module _ (text pattern : List ℕ) (s : Shape) (links counts : ℕ) (flags after
   flags-there : (k : ℕ) → k < down s * across s → getD after k 0 ≡ flagOf text pattern s k
   flags-there k h =
       ap (λ (l : List ℕ). getD l k 0) is
-      ∙ List·getD-append (table (flagOf text pattern s) (down s * across s)) _ 0 k (omega (arith, length-table (flagOf text pattern s) (down s * across s)))
+      ∙ List·getD-append (table (flagOf text pattern s) (down s * across s)) _ 0 k
+      (omega (arith, length-table (flagOf text pattern s) (down s * across s)))
       ∙ getD-table (flagOf text pattern s) (down s * across s) k 0 h
 
   pub flagged : Flagged text pattern s after
@@ -58,7 +63,8 @@ module _ (text pattern : List ℕ) (s : Shape) (links counts : ℕ) (flags after
         flags-are = flags-there;
       }
 
-  pub totalled : (found refused size : ℕ) → found ≡ ones after (down s * across s) → refused ≡ others after (down s * across s)
+  pub totalled : (found refused size : ℕ) → found ≡ ones after (down s * across s)
+      → refused ≡ others after (down s * across s)
       → size ≡ listingLength found refused (distinct pattern) → Totalled text pattern s found refused size
   unfolding neededLength
   totalled found refused size a b e =
@@ -67,7 +73,8 @@ module _ (text pattern : List ℕ) (s : Shape) (links counts : ℕ) (flags after
       record { found-is = f; refused-is = g; size-is = e ∙ rw (f, g) }
 
 -- a buffer as long as the size has room for the listing
-pub listing-fits : (text pattern : List ℕ) (s : Shape) (found refused size listing : ℕ) → Totalled text pattern s found refused size
+pub listing-fits : (text pattern : List ℕ) (s : Shape) (found refused size listing : ℕ)
+    → Totalled text pattern s found refused size
     → ((k : ℕ) → getD pattern k 0 < 256) → size ≤ listing
     → length (searchListing (asked text pattern s)) ≤ listing
 listing-fits text pattern s found refused size listing t small h =

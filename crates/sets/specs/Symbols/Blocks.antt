@@ -1,5 +1,5 @@
--- A set of symbols as four words: which bit says that a symbol is in the set, when two sets are equal, and what the code does to the words. A law
--- for one word is stated once, over the number i of the word.
+-- A set of symbols as four words: which bit says that a symbol is in the set, when two sets are equal, and what the
+-- code does to the words. A law for one word is stated once, over the number i of the word.
 -- Assumes nothing.
 use mathlib.Core.Path.{_≡_, refl, sym, ap, ap₂, _∙_, subst}
 use mathlib.Core.Bool.{Bool, true, false}
@@ -10,21 +10,24 @@ use native.Mathlib.Omega.{arith}
 use lib.Dec.{lit<, eqb}
 use lib.Count.{ones, ones-le, trailingZeros}
 use borrow.Author.Tests.{ne-eqb}
-use Rattle.theory.specs.Test.{pick, pick-false, Tested, holds, fails, eq-tested, tested-same, tested-iff}
-use Rattle.theory.specs.First.{first, First, first-spec, first-is}
-use Rattle.theory.specs.Count.{count, count-ext, count-add}
+use Rattle.theory.specs.Test.{pick, Tested, holds, fails}
+use Rattle.theory.specs.Test.Laws.{pick-false, eq-tested, tested-same, tested-iff}
+use Rattle.theory.specs.First.{first, First}
+use Rattle.theory.specs.First.Laws.{first-spec, first-is}
+use Rattle.theory.specs.Count.{count}
+use Rattle.theory.specs.Count.Laws.{count-ext, count-add}
 use Rattle.sets.specs.declared.symbols.Symbols.{Symbols}
 use Rattle.sets.specs.Symbols.{bitOf, wordOf, wordIn, has, setOf, sizeOf, lowestOf}
 use Rattle.sets.specs.Symbols.Words.{bit-word, word-is, word-ext, word-none, bit-zero, ones-count, trailing-first}
 
 -- the words of a set that code holds
-pub record Small (s : Symbols) : Type 0 where
+pub record SmallWords (s : Symbols) : Type 0 where
   pub w0-small : s .w0 < 2 ^ 64
   pub w1-small : s .w1 < 2 ^ 64
   pub w2-small : s .w2 < 2 ^ 64
   pub w3-small : s .w3 < 2 ^ 64
 
-word-small : (s : Symbols) → Small s → (i : ℕ) → wordIn s i < 2 ^ 64
+word-small : (s : Symbols) → SmallWords s → (i : ℕ) → wordIn s i < 2 ^ 64
 unfolding wordIn
 word-small s f zero = f .w0-small
 word-small s f (suc zero) = f .w1-small
@@ -55,7 +58,8 @@ word-set P (suc (suc (suc (suc i)))) h = absurd (omega arith)
 pub has-set : (P : ℕ → Bool) (v : ℕ) → v < 256 → has (setOf P) v ≡ P v
 unfolding has
 has-set P v h =
-    ap (λ (w : ℕ). bitOf w (v % 64)) (word-set P (v / 64) (omega arith)) ∙ bit-word (λ k. P (64 * (v / 64) + k)) 64 (v % 64) (omega arith) ∙ ap P back
+    ap (λ (w : ℕ). bitOf w (v % 64)) (word-set P (v / 64) (omega arith))
+    ∙ bit-word (λ k. P (64 * (v / 64) + k)) 64 (v % 64) (omega arith) ∙ ap P back
   where
     back : 64 * (v / 64) + v % 64 ≡ v
     back = omega arith
@@ -64,9 +68,11 @@ has-set P v h =
 same-words : (s t : Symbols) → s .w0 ≡ t .w0 → s .w1 ≡ t .w1 → s .w2 ≡ t .w2 → s .w3 ≡ t .w3 → s ≡ t
 same-words s t a b c d = λ i. record { w0 = a i; w1 = b i; w2 = c i; w3 = d i }
 
-words-set : (s : Symbols) (P : ℕ → Bool) → ((i : ℕ) → i < 4 → wordIn s i ≡ wordOf (λ k. P (64 * i + k)) 64) → s ≡ setOf P
+words-set : (s : Symbols) (P : ℕ → Bool) → ((i : ℕ) → i < 4 → wordIn s i ≡ wordOf (λ k. P (64 * i + k)) 64)
+    → s ≡ setOf P
 unfolding wordIn
-words-set s P h = same-words s (setOf P) (same 0 (omega arith)) (same 1 (omega arith)) (same 2 (omega arith)) (same 3 (omega arith))
+words-set s P h =
+    same-words s (setOf P) (same 0 (omega arith)) (same 1 (omega arith)) (same 2 (omega arith)) (same 3 (omega arith))
   where
     same : (i : ℕ) → i < 4 → wordIn s i ≡ wordIn (setOf P) i
     same i l = h i l ∙ sym (word-set P i l)
@@ -74,13 +80,8 @@ words-set s P h = same-words s (setOf P) (same 0 (omega arith)) (same 1 (omega a
 pub set-ext : (P Q : ℕ → Bool) → ((v : ℕ) → v < 256 → P v ≡ Q v) → setOf P ≡ setOf Q
 set-ext P Q h =
     words-set (setOf P) Q
-    (λ i l. word-set P i l ∙ word-ext (λ k. P (64 * i + k)) (λ k. Q (64 * i + k)) 64 (λ k m. h (64 * i + k) (omega arith)))
-
--- a set is the set of P where just the symbols with P are in it
-pub set-is : (s : Symbols) (P : ℕ → Bool) → Small s → ((v : ℕ) → v < 256 → has s v ≡ P v) → s ≡ setOf P
-set-is s P f h =
-    words-set s P
-    (λ i l. word-is (λ k. P (64 * i + k)) 64 (wordIn s i) (word-small s f i) (λ k m. sym (has-bit s i k m) ∙ h (64 * i + k) (omega arith)))
+    (λ i l. word-set P i l ∙ word-ext (λ k. P (64 * i + k)) (λ k. Q (64 * i + k)) 64
+    (λ k m. h (64 * i + k) (omega arith)))
 
 -- the set with another word i
 abbrev putWord : Symbols → ℕ → ℕ → Symbols
@@ -112,43 +113,51 @@ same-place v i k e h =
     symbol-of z = omega arith
 
 -- where the word of v has v's bit made b, the set has v made b
-module _ (s : Symbols) (v : ℕ) (b : Bool) (small : Small s) where
+module _ (s : Symbols) (v : ℕ) (b : Bool) (small : SmallWords s) where
   changed-word : (i x : ℕ) → i ≡ v / 64 → x ≡ wordOf (λ k. pick (eqb k (v % 64)) b (bitOf (wordIn s i) k)) 64 →
       x ≡ wordOf (λ k. pick (eqb (64 * i + k) v) b (has s (64 * i + k))) 64
   changed-word i x e h =
       h ∙ word-ext _ _ 64 (λ k l. ap₂ (λ (t c : Bool). pick t b c) (same-place v i k e l) (sym (has-bit s i k l)))
 
-  unchanged-word : (i : ℕ) → (i ≡ v / 64 → ⊥) → wordIn s i ≡ wordOf (λ k. pick (eqb (64 * i + k) v) b (has s (64 * i + k))) 64
+  unchanged-word : (i : ℕ) → (i ≡ v / 64 → ⊥)
+      → wordIn s i ≡ wordOf (λ k. pick (eqb (64 * i + k) v) b (has s (64 * i + k))) 64
   unchanged-word i d =
       word-is _ 64 (wordIn s i) (word-small s small i)
-      (λ k l. sym (has-bit s i k l) ∙ sym (pick-false b (has s (64 * i + k)) (ne-eqb (64 * i + k) v (λ z. d (omega arith)))))
+      (λ k l. sym (has-bit s i k l) ∙ sym
+      (pick-false b (has s (64 * i + k)) (ne-eqb (64 * i + k) v (λ z. d (omega arith)))))
 
   changed : (i x : ℕ) → i ≡ v / 64 → x ≡ wordOf (λ k. pick (eqb k (v % 64)) b (bitOf (wordIn s i) k)) 64 →
       putWord s i x ≡ setOf (λ u. pick (eqb u v) b (has s u))
   changed i x e h = words-set (putWord s i x) _ (λ j l. word-put s i x j l ∙ go j (eqb j i) (eq-tested j i))
     where
-      go : (j : ℕ) (t : Bool) → Tested (j ≡ i) t → pick t x (wordIn s j) ≡ wordOf (λ k. pick (eqb (64 * j + k) v) b (has s (64 * j + k))) 64
+      go : (j : ℕ) (t : Bool) → Tested (j ≡ i) t
+          → pick t x (wordIn s j) ≡ wordOf (λ k. pick (eqb (64 * j + k) v) b (has s (64 * j + k))) 64
       go j true (holds z) =
-          subst (λ (n : ℕ). x ≡ wordOf (λ k. pick (eqb (64 * n + k) v) b (has s (64 * n + k))) 64) (sym z) (changed-word i x e h)
+          subst (λ (n : ℕ). x ≡ wordOf (λ k. pick (eqb (64 * n + k) v) b (has s (64 * n + k))) 64) (sym z)
+          (changed-word i x e h)
       go j false (fails d) = unchanged-word j (λ z. d (z ∙ sym e))
 
   pub changed-0 : (x : ℕ) → v < 64 → x ≡ wordOf (λ k. pick (eqb k (v % 64)) b (bitOf (s .w0) k)) 64 →
-      _≡_ {A = Symbols} (record { w0 = x; w1 = s .w1; w2 = s .w2; w3 = s .w3 }) (setOf (λ u. pick (eqb u v) b (has s u)))
+      _≡_ {A =
+      Symbols} (record { w0 = x; w1 = s .w1; w2 = s .w2; w3 = s .w3 }) (setOf (λ u. pick (eqb u v) b (has s u)))
   unfolding wordIn
   changed-0 x l h = changed 0 x (omega arith) h
 
   pub changed-1 : (x : ℕ) → 64 ≤ v → v < 128 → x ≡ wordOf (λ k. pick (eqb k (v % 64)) b (bitOf (s .w1) k)) 64 →
-      _≡_ {A = Symbols} (record { w0 = s .w0; w1 = x; w2 = s .w2; w3 = s .w3 }) (setOf (λ u. pick (eqb u v) b (has s u)))
+      _≡_ {A =
+      Symbols} (record { w0 = s .w0; w1 = x; w2 = s .w2; w3 = s .w3 }) (setOf (λ u. pick (eqb u v) b (has s u)))
   unfolding wordIn
   changed-1 x m l h = changed 1 x (omega arith) h
 
   pub changed-2 : (x : ℕ) → 128 ≤ v → v < 192 → x ≡ wordOf (λ k. pick (eqb k (v % 64)) b (bitOf (s .w2) k)) 64 →
-      _≡_ {A = Symbols} (record { w0 = s .w0; w1 = s .w1; w2 = x; w3 = s .w3 }) (setOf (λ u. pick (eqb u v) b (has s u)))
+      _≡_ {A =
+      Symbols} (record { w0 = s .w0; w1 = s .w1; w2 = x; w3 = s .w3 }) (setOf (λ u. pick (eqb u v) b (has s u)))
   unfolding wordIn
   changed-2 x m l h = changed 2 x (omega arith) h
 
   pub changed-3 : (x : ℕ) → 192 ≤ v → v < 256 → x ≡ wordOf (λ k. pick (eqb k (v % 64)) b (bitOf (s .w3) k)) 64 →
-      _≡_ {A = Symbols} (record { w0 = s .w0; w1 = s .w1; w2 = s .w2; w3 = x }) (setOf (λ u. pick (eqb u v) b (has s u)))
+      _≡_ {A =
+      Symbols} (record { w0 = s .w0; w1 = s .w1; w2 = s .w2; w3 = x }) (setOf (λ u. pick (eqb u v) b (has s u)))
   unfolding wordIn
   changed-3 x m l h = changed 3 x (omega arith) h
 
@@ -161,7 +170,7 @@ empty-set = same-words _ (setOf (λ v. false)) none none none none
     none = sym (word-none 64)
 
 -- the ones of word i are the symbols 64 i to 64 i + 63 of the set
-ones-block : (s : Symbols) → Small s → (i : ℕ) → ones (wordIn s i) ≡ count (λ k. has s (64 * i + k)) 64
+ones-block : (s : Symbols) → SmallWords s → (i : ℕ) → ones (wordIn s i) ≡ count (λ k. has s (64 * i + k)) 64
 ones-block s f i = ones-count 64 (wordIn s i) (word-small s f i) ∙ count-ext _ _ 64 (λ k l. sym (has-bit s i k l))
 
 count-zero : (P : ℕ → Bool) → count P 0 ≡ 0
@@ -169,7 +178,7 @@ unfolding count
 count-zero P = refl
 
 -- the ones of all words are the symbols of the set
-pub size-words : (s : Symbols) → Small s → ones (s .w0) + ones (s .w1) + ones (s .w2) + ones (s .w3) ≡ sizeOf s
+pub size-words : (s : Symbols) → SmallWords s → ones (s .w0) + ones (s .w1) + ones (s .w2) + ones (s .w3) ≡ sizeOf s
 unfolding wordIn
 size-words s f =
     omega (
@@ -185,8 +194,15 @@ size-words s f =
       ones-block s f 3,
     )
 
-pub ones-small : (s : Symbols) → Small s → (ones (s .w0) ≤ 64) × (ones (s .w1) ≤ 64) × (ones (s .w2) ≤ 64) × (ones (s .w3) ≤ 64)
-ones-small s f = (ones-le 64 (s .w0) (f .w0-small), ones-le 64 (s .w1) (f .w1-small), ones-le 64 (s .w2) (f .w2-small), ones-le 64 (s .w3) (f .w3-small))
+pub ones-small : (s : Symbols) → SmallWords s
+    → (ones (s .w0) ≤ 64) × (ones (s .w1) ≤ 64) × (ones (s .w2) ≤ 64) × (ones (s .w3) ≤ 64)
+ones-small s f = (
+  ones-le 64 (s .w0) (f .w0-small),
+  ones-le 64 (s .w1) (f .w1-small),
+  ones-le 64 (s .w2) (f .w2-small),
+  ones-le 64
+      (s .w3) (f .w3-small),
+)
 
 -- a word that is not 0 has a bit
 first-bit : (w : ℕ) → w < 2 ^ 64 → (w ≡ 0 → ⊥) → first (bitOf w) 64 < 64
@@ -202,7 +218,8 @@ unfolding has
 has-at s v = refl
 
 -- where the words before word i are 0, and word i is not or is the last, the lowest symbol is word i's lowest bit
-module _ (s : Symbols) (small : Small s) (i : ℕ) (l : i < 4) (z : (j : ℕ) → j < i → wordIn s j ≡ 0) (d : i < 3 → wordIn s i ≡ 0 → ⊥) where
+module _ (s : Symbols) (small : SmallWords s) (i : ℕ) (l : i < 4) (z : (j : ℕ) → j < i → wordIn s j ≡ 0)
+    (d : i < 3 → wordIn s i ≡ 0 → ⊥) where
   none-before : (k : ℕ) → k < 64 * i + first (bitOf (wordIn s i)) 64 → has s k ≡ false
   none-before k m = has-at s k ∙ go (decLt (k / 64) i)
     where
@@ -233,7 +250,7 @@ module _ (s : Symbols) (small : Small s) (i : ℕ) (l : i < 4) (z : (j : ℕ) �
       }))
 
 -- the lowest symbol stands in the first word that is not 0
-module _ (s : Symbols) (small : Small s) where
+module _ (s : Symbols) (small : SmallWords s) where
   pub lowest-0 : (s .w0 ≡ 0 → ⊥) → trailingZeros 64 (s .w0) ≡ lowestOf s
   unfolding wordIn
   lowest-0 d = sym (zero-add _) ∙ lowest-block s small 0 (omega arith) (λ j h. absurd (none j h)) (λ _. d)

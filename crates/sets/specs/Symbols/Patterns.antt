@@ -1,5 +1,5 @@
--- The set of a pattern's symbols: which symbols are in it, how the code's loop over the pattern makes it, and that its size is the number of
--- different symbols in the pattern.
+-- The set of a pattern's symbols: which symbols are in it, how the code's loop over the pattern makes it, and that its
+-- size is the number of different symbols in the pattern.
 -- Assumes nothing.
 use mathlib.Core.Path.{_≡_, sym, ap, _∙_}
 use mathlib.Core.Bool.{true, false}
@@ -10,8 +10,10 @@ use lib.Dec.{eqb}
 use lib.ListN.{length, getD, take}
 use lib.Seq.{take-suc, take-all}
 use Rattle.theory.specs.Test.{pick}
-use Rattle.theory.specs.Count.{members, count-ext, members-ext}
-use Rattle.shapes.specs.Windows.{windowCells, cells-byte}
+use Rattle.theory.specs.Count.{members}
+use Rattle.theory.specs.Count.Laws.{count-ext, members-ext}
+use Rattle.shapes.specs.Windows.{windowCells}
+use Rattle.shapes.specs.Windows.Laws.{cells-byte}
 use Rattle.grid.specs.Distinct.{contains, distinct}
 use Rattle.grid.specs.Distinct.Sets.{contains-none, contains-end, distinct-count}
 use Rattle.sets.specs.declared.symbols.Symbols.{Symbols}
@@ -24,7 +26,8 @@ has-symbol-set xs v h = has-set (contains xs) v h
 
 -- so the symbols of the set, rising, are the pattern's
 pub members-symbol-set : (xs : List ℕ) (s : Symbols) → s ≡ symbolSet xs → members (has s) 256 ≡ symbolsOf xs
-members-symbol-set xs s e = members-ext (has s) (contains xs) 256 (λ v h. ap (λ (t : Symbols). has t v) e ∙ has-symbol-set xs v h)
+members-symbol-set xs s e =
+    members-ext (has s) (contains xs) 256 (λ v h. ap (λ (t : Symbols). has t v) e ∙ has-symbol-set xs v h)
 
 -- no symbol, and one symbol more at the pattern's end
 pub symbols-none : setOf (λ v. false) ≡ symbolSet []
@@ -35,7 +38,8 @@ symbols-end xs x = set-ext _ _ (λ v l. ap (pick (eqb v x) true) (has-symbol-set
 
 -- the loop over a pattern: from the set of the first i symbols to that of one more, and at the end
 module _ (xs : List ℕ) where
-  pub symbols-next : (i : ℕ) (s : Symbols) → i < length xs → s ≡ symbolSet (take i xs) → withSymbol s (getD xs i 0) ≡ symbolSet (take (i + 1) xs)
+  pub symbols-next : (i : ℕ) (s : Symbols) → i < length xs → s ≡ symbolSet (take i xs)
+      → withSymbol s (getD xs i 0) ≡ symbolSet (take (i + 1) xs)
   symbols-next i s h e =
       ap (λ (t : Symbols). withSymbol t (getD xs i 0)) e ∙ symbols-end (take i xs) (getD xs i 0)
       ∙ ap symbolSet (sym (ap (λ (n : ℕ). take n xs) (add-one i) ∙ take-suc xs i 0 h))
@@ -49,6 +53,8 @@ size-distinct xs h = count-ext (has (symbolSet xs)) (contains xs) 256 (has-symbo
 
 -- a window's distinct count is the size of its symbol set
 pub window-size : (text : List ℕ) (columns row column height width : ℕ) → ((k : ℕ) → getD text k 0 < 256)
-    → distinct (windowCells text columns row column height width) ≡ sizeOf (symbolSet (windowCells text columns row column height width))
+    → distinct (windowCells text columns row column height width)
+    ≡ sizeOf (symbolSet (windowCells text columns row column height width))
 window-size text columns row column height width bytes =
-    sym (size-distinct (windowCells text columns row column height width) (cells-byte text columns row column height width bytes))
+    sym (size-distinct (windowCells text columns row column height width)
+    (cells-byte text columns row column height width bytes))

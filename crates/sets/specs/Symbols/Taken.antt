@@ -1,8 +1,8 @@
--- Taking the lowest symbol out of a set again and again gives the symbols of the set, rising and each once, and then leaves nothing.
+-- Taking the lowest symbol out of a set again and again gives the symbols of the set, rising and each once, and then
+-- leaves nothing.
 -- Assumes nothing.
 use mathlib.Core.Path.{_≡_, refl, sym, ap, _∙_}
 use mathlib.Core.Bool.{Bool, true, false}
-use mathlib.Core.Logic.{_↔_}
 use mathlib.Core.List.{List, [], _∷_}
 use Prim.Native.Nat.{ℕ, zero, suc, _≤_, _<_}
 use native.Mathlib.Decide.{decLt}
@@ -10,9 +10,12 @@ use native.Mathlib.Omega.{arith}
 use lib.Dec.{eqb}
 use lib.ListN.{length}
 use borrow.Author.Tests.{eq-eqb, ne-eqb}
-use Rattle.theory.specs.Test.{pick, pick-true, pick-false, true-false}
-use Rattle.theory.specs.First.{First, first-spec}
-use Rattle.theory.specs.Count.{count, members, count-none, members-none, length-members, members-least, members-iff, members-rising, Entry, Rising}
+use Rattle.theory.specs.Test.{pick}
+use Rattle.theory.specs.Test.Laws.{pick-true, pick-false, true-false}
+use Rattle.theory.specs.First.{First}
+use Rattle.theory.specs.First.Laws.{first-spec}
+use Rattle.theory.specs.Count.{count, members, Rising}
+use Rattle.theory.specs.Count.Laws.{count-none, members-none, length-members, members-least, members-rising}
 use Rattle.sets.specs.declared.symbols.Symbols.{Symbols}
 use Rattle.sets.specs.Symbols.{has, sizeOf, lowestOf, withoutSymbol, taken}
 use Rattle.sets.specs.Symbols.Blocks.{has-set}
@@ -29,10 +32,12 @@ lowest-below s n e = go (decLt (lowestOf s) 256)
     go : Dec (lowestOf s < 256) → lowestOf s < 256
     go (yes h) = h
     go (no d) =
-        absurd (let none : count (has s) 256 ≡ 0 = count-none (has s) 256 (λ k l. first-spec (has s) 256 .before k (omega arith)) in omega arith)
+        absurd (let none : count (has s) 256
+        ≡ 0 = count-none (has s) 256 (λ k l. first-spec (has s) 256 .before k (omega arith)) in omega arith)
 
 -- the lowest symbol, and then those of the set without it
-pub members-lowest : (s : Symbols) → lowestOf s < 256 → members (has s) 256 ≡ lowestOf s ∷ members (has (withoutSymbol s (lowestOf s))) 256
+pub members-lowest : (s : Symbols) → lowestOf s < 256
+    → members (has s) 256 ≡ lowestOf s ∷ members (has (withoutSymbol s (lowestOf s))) 256
 members-lowest s l =
     members-least (has s) (has (withoutSymbol s (lowestOf s))) 256 (lowestOf s) l (spec .hit l) (spec .before)
     (without (lowestOf s) l ∙ pick-true false (has s (lowestOf s)) (eq-eqb (lowestOf s) (lowestOf s) refl))
@@ -49,7 +54,8 @@ pub members-over : (s : Symbols) → 256 ≤ lowestOf s → members (has s) 256 
 members-over s h = members-none (has s) 256 (λ k l. first-spec (has s) 256 .before k (omega arith))
 
 -- so one symbol less is left
-pub members-less : (s rest : Symbols) (a : ℕ) → rest ≡ withoutSymbol s a → a ≡ lowestOf s → a < 256 → length (members (has rest) 256) < length (members (has s) 256)
+pub members-less : (s rest : Symbols) (a : ℕ) → rest ≡ withoutSymbol s a → a ≡ lowestOf s → a < 256
+    → length (members (has rest) 256) < length (members (has s) 256)
 members-less s rest a r e h = rw (r, e) (let m = ap length (members-lowest s (omega arith)) in omega arith)
 
 -- the lowest one is in the set
@@ -58,7 +64,8 @@ lowest-has s a e h = ap (has s) e ∙ first-spec (has s) 256 .hit (omega arith)
 
 -- and so are those that are left without any one
 pub without-has : (s rest : Symbols) (a b : ℕ) → rest ≡ withoutSymbol s a → b < 256 → has rest b ≡ true → has s b ≡ true
-without-has s rest a b r h t = go (eqb b a) (sym (has-set (λ u. pick (eqb u a) false (has s u)) b h) ∙ ap (λ (x : Symbols). has x b) (sym r) ∙ t)
+without-has s rest a b r h t =
+    go (eqb b a) (sym (has-set (λ u. pick (eqb u a) false (has s u)) b h) ∙ ap (λ (x : Symbols). has x b) (sym r) ∙ t)
   where
     go : (c : Bool) → pick c false (has s b) ≡ true → has s b ≡ true
     go true x = absurd (true-false x refl)
@@ -78,15 +85,12 @@ taken-all : (n : ℕ) (s : Symbols) → sizeOf s ≡ n → taken n s ≡ members
 unfolding taken
 taken-all zero s e = no-members (members (has s) 256) (length-members (has s) 256 ∙ e)
 taken-all (suc n) s e =
-    ap (λ (xs : List ℕ). lowestOf s ∷ xs) (taken-all n (withoutSymbol s (lowestOf s)) (size-without s n e)) ∙ sym (members-lowest s (lowest-below s n e))
+    ap (λ (xs : List ℕ). lowestOf s ∷ xs) (taken-all n (withoutSymbol s (lowestOf s)) (size-without s n e))
+    ∙ sym (members-lowest s (lowest-below s n e))
 
 -- as many takes as the set has symbols give all of them, rising and each once
 pub taken-members : (s : Symbols) → taken (sizeOf s) s ≡ members (has s) 256
 taken-members s = taken-all (sizeOf s) s refl
-
--- so a symbol is taken exactly if it is in the set, and each is greater than those taken before it
-pub taken-iff : (s : Symbols) (v : ℕ) → Entry (taken (sizeOf s) s) v ↔ ((v < 256) × (has s v ≡ true))
-taken-iff s v = rw (taken-members s) (members-iff (has s) 256 v)
 
 pub taken-rising : (s : Symbols) → Rising (taken (sizeOf s) s)
 taken-rising s = rw (taken-members s) (members-rising (has s) 256)

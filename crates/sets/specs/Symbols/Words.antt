@@ -1,5 +1,6 @@
--- The bits of a word: a word below 2 ^ n is its n bits, and what setting or clearing one bit, the count of its ones and the count of its
--- trailing zeros do to them or say of them. Each law goes by one bit at a time: the lowest bit is w % 2, and the others are the bits of w / 2.
+-- The bits of a word: a word below 2 ^ n is its n bits, and what setting or clearing one bit, the count of its ones and
+-- the count of its trailing zeros do to them or say of them. Each law goes by one bit at a time: the lowest bit is w %
+-- 2, and the others are the bits of w / 2.
 -- Assumes nothing.
 use mathlib.Core.Path.{_≡_, refl, sym, ap, ap₂, _∙_, subst}
 use mathlib.Core.Bool.{Bool, true, false}
@@ -12,9 +13,12 @@ use lib.Pow.{shr-shr, shr-lt, shl-exact, pow-lt}
 use lib.Bits.{bitOr, or-step, or-zero-r, or-lt}
 use lib.Count.{ones, ones-step, under, trailingZeros}
 use borrow.Author.Tests.{eq-eqb, ne-eqb, eqb-true, eqb-false}
-use Rattle.theory.specs.Test.{pick, pick-false, Tested, holds, fails, eq-tested}
-use Rattle.theory.specs.First.{first, first-ext}
-use Rattle.theory.specs.Count.{count, count-ext, count-front}
+use Rattle.theory.specs.Test.{pick, Tested, holds, fails}
+use Rattle.theory.specs.Test.Laws.{pick-false, eq-tested}
+use Rattle.theory.specs.First.{first}
+use Rattle.theory.specs.First.Laws.{first-ext}
+use Rattle.theory.specs.Count.{count}
+use Rattle.theory.specs.Count.Laws.{count-ext, count-front}
 use Rattle.sets.specs.Symbols.{bitOf, wordOf}
 
 -- the lowest bit, and the others
@@ -80,7 +84,8 @@ pub word-ext : (P Q : ℕ → Bool) (n : ℕ) → ((k : ℕ) → k < n → P k �
 unfolding wordOf
 word-ext P Q zero h = refl
 word-ext P Q (suc n) h =
-    ap₂ (λ (b : Bool) (v : ℕ). pick b 1 0 + 2 * v) (h zero (omega arith)) (word-ext (λ k. P (suc k)) (λ k. Q (suc k)) n (λ k l. h (suc k) (omega arith)))
+    ap₂ (λ (b : Bool) (v : ℕ). pick b 1 0 + 2 * v) (h zero (omega arith))
+    (word-ext (λ k. P (suc k)) (λ k. Q (suc k)) n (λ k l. h (suc k) (omega arith)))
 
 pub word-none : (n : ℕ) → wordOf (λ _. false) n ≡ 0
 unfolding wordOf
@@ -102,7 +107,8 @@ ones-count zero w l = let w-zero : w ≡ 0 = omega arith in ap ones w-zero ∙ n
 ones-count (suc n) w l =
     ones-step w
     ∙ ap₂ (λ (a b : ℕ). a + b) (low-digit w)
-    (ones-count n (w / 2) (half-below w n l) ∙ count-ext (bitOf (w / 2)) (λ k. bitOf w (suc k)) n (λ k _. sym (bit-next w k)))
+    (ones-count n (w / 2) (half-below w n l)
+    ∙ count-ext (bitOf (w / 2)) (λ k. bitOf w (suc k)) n (λ k _. sym (bit-next w k)))
     ∙ sym (count-front (bitOf w) n)
 
 under-pick : (b : Bool) (t : ℕ) → under (pick b 1 0) t ≡ pick b zero (suc t)
@@ -114,7 +120,8 @@ pub trailing-first : (n w : ℕ) → trailingZeros n w ≡ first (bitOf w) n
 unfolding trailingZeros first
 trailing-first zero w = refl
 trailing-first (suc n) w =
-    ap₂ under (low-digit w) (trailing-first n (w / 2) ∙ first-ext (bitOf (w / 2)) (λ k. bitOf w (suc k)) n (λ k _. sym (bit-next w k)))
+    ap₂ under (low-digit w) (trailing-first n (w / 2)
+    ∙ first-ext (bitOf (w / 2)) (λ k. bitOf w (suc k)) n (λ k _. sym (bit-next w k)))
     ∙ under-pick (bitOf w 0) (first (λ k. bitOf w (suc k)) n)
 
 double : (k : ℕ) → 2 ^ suc k ≡ 2 * 2 ^ k
@@ -124,12 +131,14 @@ double k = pow-suc 2 k ∙ omega arith
 pub bit-or : (k j w : ℕ) → bitOf (bitOr w (2 ^ k)) j ≡ pick (eqb j k) true (bitOf w j)
 bit-or zero zero w = low-bit _ true (omega (arith, or-step w 1))
 bit-or zero (suc j) w =
-    bit-next (bitOr w 1) j ∙ ap (λ (u : ℕ). bitOf u j) half ∙ sym (bit-next w j) ∙ sym (pick-false true (bitOf w (suc j)) (eqb·suc-zero j))
+    bit-next (bitOr w 1) j ∙ ap (λ (u : ℕ). bitOf u j) half ∙ sym (bit-next w j)
+    ∙ sym (pick-false true (bitOf w (suc j)) (eqb·suc-zero j))
   where
     half : bitOr w 1 / 2 ≡ w / 2
     half = omega (arith, or-step w 1, or-zero-r (w / 2))
 bit-or (suc k) zero w =
-    low-bit _ (bitOf w 0) (omega (arith, or-step w (2 ^ suc k), double k, low-digit w)) ∙ sym (pick-false true (bitOf w 0) (eqb·zero-suc k))
+    low-bit _ (bitOf w 0) (omega (arith, or-step w (2 ^ suc k), double k, low-digit w))
+    ∙ sym (pick-false true (bitOf w 0) (eqb·zero-suc k))
 bit-or (suc k) (suc j) w =
     bit-next (bitOr w (2 ^ suc k)) j ∙ ap (λ (u : ℕ). bitOf u j) half ∙ bit-or k j (w / 2)
     ∙ ap₂ (λ (t b : Bool). pick t true b) (sym (eqb·suc-suc j k)) (sym (bit-next w j))
@@ -146,7 +155,8 @@ bit-least (suc k) w e = omega (arith, double k, bit-least k (w / 2) (sym (bit-ne
 pub bit-sub : (k j w : ℕ) → bitOf w k ≡ true → bitOf (w - 2 ^ k) j ≡ pick (eqb j k) false (bitOf w j)
 bit-sub zero zero w e = low-bit _ false (omega (arith, low-digit w ∙ ap (λ (b : Bool). pick b 1 0) e))
 bit-sub zero (suc j) w e =
-    bit-next (w - 1) j ∙ ap (λ (u : ℕ). bitOf u j) half ∙ sym (bit-next w j) ∙ sym (pick-false false (bitOf w (suc j)) (eqb·suc-zero j))
+    bit-next (w - 1) j ∙ ap (λ (u : ℕ). bitOf u j) half ∙ sym (bit-next w j)
+    ∙ sym (pick-false false (bitOf w (suc j)) (eqb·suc-zero j))
   where
     half : (w - 1) / 2 ≡ w / 2
     half = omega (arith, low-digit w ∙ ap (λ (b : Bool). pick b 1 0) e)

@@ -1,5 +1,5 @@
--- What the tests of two columns say: `agree` tests Agree, `free` tests Free; and columns agree exactly if each leads back from the other, so one
--- pass over each column is enough.
+-- What the tests of two columns say: `agree` tests Agree, `free` tests Free; and columns agree exactly if each leads
+-- back from the other, so one pass over each column is enough.
 -- Assumes nothing.
 use mathlib.Core.Path.{_≡_, refl, sym, _∙_, ap, subst}
 use mathlib.Core.Bool.{Bool, true, false}
@@ -9,8 +9,10 @@ use Prim.Native.Nat.{ℕ, _≤_, _<_}
 use native.Mathlib.Omega.{arith}
 use lib.Dec.{leb}
 use lib.ListN.{getD}
-use Rattle.theory.specs.Test.{pick, both, Tested, holds, fails, tested-iff, tested-same, eq-tested, lt-tested, le-tested, both-tested}
-use Rattle.theory.specs.First.{every, every-tested}
+use Rattle.theory.specs.Test.{pick, both, Tested, holds, fails}
+use Rattle.theory.specs.Test.Laws.{tested-iff, tested-same, eq-tested, lt-tested, le-tested, both-tested}
+use Rattle.theory.specs.First.{every}
+use Rattle.theory.specs.First.Laws.{every-tested}
 use Rattle.theory.specs.Columns.{Agree, agree, sameTest, Free, free, Back, backAt, LeadsBack, leadsBack}
 
 either-tested : {P Q : Type 0} {a b : Bool} → Tested P a → Tested Q b → Tested (P ⊎ Q) (pick a true b)
@@ -35,21 +37,28 @@ agree-tested f g =
     (λ s. (s .forward-le, (s .backward-le, s .same)))
     (both-tested (all-le f)
     (both-tested (all-le g)
-    (every-tested _ 256 (λ a. every-tested _ 256 (λ b. alike-tested (eq-tested (getD f a 0) b) (eq-tested (getD g b 0) a))))))
+    (every-tested _ 256 (λ a. every-tested _ 256
+    (λ b. alike-tested (eq-tested (getD f a 0) b) (eq-tested (getD g b 0) a))))))
   where
     all-le : (l : List ℕ) → Tested ((a : ℕ) → a < 256 → getD l a 0 ≤ 256) (every (λ a. leb (getD l a 0) 256) 256)
     all-le l = every-tested _ 256 (λ a. le-tested (getD l a 0) 256)
 
 pub agree-sym : (f g : List ℕ) → Agree f g → Agree g f
 agree-sym f g s =
-    record { forward-le = s .backward-le; backward-le = s .forward-le; same = λ b k a h. (s .same a h b k .1, s .same a h b k .0) }
+    record {
+      forward-le =
+          s .backward-le;
+      backward-le = s .forward-le;
+      same = λ b k a h. (s .same a h b k .1, s .same a h b k .0);
+    }
 
 -- ---- each column leads back from the other
 
 pub back-tested : (g : List ℕ) (x a : ℕ) → Tested (Back g x a) (backAt g x a)
 back-tested g x a = go (lt-tested x 256) (eq-tested (getD g x 0) a) (eq-tested x 256)
   where
-    go : {t u v : Bool} → Tested (x < 256) t → Tested (getD g x 0 ≡ a) u → Tested (x ≡ 256) v → Tested (Back g x a) (pick t u v)
+    go : {t u v : Bool} → Tested (x < 256) t → Tested (getD g x 0 ≡ a) u → Tested (x ≡ 256) v
+        → Tested (Back g x a) (pick t u v)
     go (holds l) (holds e) v = holds (record { entry-le = omega arith; back = λ _. e })
     go (holds l) (fails n) v = fails (λ s. n (s .back l))
     go (fails l) u (holds e) = holds (record { entry-le = omega arith; back = λ h. absurd (l h) })
@@ -78,7 +87,8 @@ agree-leads-back f g s a h = record { entry-le = s .forward-le a h; back = λ l.
 pub agree-both-ways : (f g : List ℕ) → agree f g ≡ both (leadsBack f g) (leadsBack g f)
 agree-both-ways f g =
     tested-same (agree-tested f g)
-    (tested-iff (λ h. both-ways-agree f g (h .0) (h .1)) (λ s. (agree-leads-back f g s, agree-leads-back g f (agree-sym f g s)))
+    (tested-iff (λ h. both-ways-agree f g (h .0) (h .1))
+    (λ s. (agree-leads-back f g s, agree-leads-back g f (agree-sym f g s)))
     (both-tested (leads-back-tested f g) (leads-back-tested g f)))
 
 -- where the one column leads back the other decides, and where it does not the columns disagree

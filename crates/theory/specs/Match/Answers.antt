@@ -1,4 +1,5 @@
--- The answer is right: a match exactly where the pattern and the window match, and else the mismatch that ends first and then begins first.
+-- The answer is right: a match exactly where the pattern and the window match, and else the mismatch that ends first
+-- and then begins first.
 -- Assumes nothing.
 use mathlib.Core.Path.{_≡_, refl, subst}
 use mathlib.Core.Bool.{Bool, true, false}
@@ -6,10 +7,14 @@ use mathlib.Core.Logic.{_↔_}
 use Prim.Native.Nat.{ℕ, _<_, _≤_}
 use native.Mathlib.Omega.{arith}
 use borrow.Author.Tests.{ltb-true}
-use Rattle.theory.specs.Test.{pick, Tested, holds, fails, lt-tested}
-use Rattle.theory.specs.First.{first, First, first-spec}
-use Rattle.theory.specs.Match.{Maps, Matches, AlikeOnly, Mismatch, mismatchAt, earliest, ends, firstEnd, Answer, matched, mismatched, mismatchEnding, answerOf, imageOf}
-use Rattle.theory.specs.Match.Even.{Alike, mismatch-true, mismatch-false, ends-false, even-if, maps-even, even-maps}
+use Rattle.theory.specs.Test.{pick, Tested, holds, fails}
+use Rattle.theory.specs.Test.Laws.{lt-tested}
+use Rattle.theory.specs.First.{first, First}
+use Rattle.theory.specs.First.Laws.{first-spec}
+use Rattle.theory.specs.Match.{Maps, Matches, AlikeOnly, Mismatch, mismatchAt, earliest, ends, firstEnd, Answer}
+use Rattle.theory.specs.Match.{matched, mismatched, mismatchEnding, answerOf, imageOf}
+use Rattle.theory.specs.Match.Even.{Alike, mismatch-true, mismatch-false, ends-false, even-if, maps-even}
+use Rattle.theory.specs.Match.Even.{even-maps}
 
 module _ (m w : ℕ → ℕ) where
   pub record LeastMismatch (side : Bool) (n q p : ℕ) : Type 0 where
@@ -29,7 +34,8 @@ module _ (m w : ℕ → ℕ) where
       go true u = u .1 (a .there (u .0))
       go false u = u .1 (a .back (u .0))
 
-  least : (p n : ℕ) → p < n → ends m w p ≡ true → ((k : ℕ) → k < p → ends m w k ≡ false) → Right n (mismatchEnding m w p)
+  least : (p n : ℕ) → p < n → ends m w p ≡ true → ((k : ℕ) → k < p → ends m w k ≡ false)
+      → Right n (mismatchEnding m w p)
   unfolding mismatchEnding ends earliest
   least p n hp t before =
       let f = first-spec (mismatchAt m w p) p in
@@ -41,7 +47,8 @@ module _ (m w : ℕ → ℕ) where
             let no-sooner : k < p → ⊥ = λ h. mismatch-alike s i k c (ends-false m w k (before k h) i (c .order)) in
             omega arith;
         earlier-first = λ s i c.
-            let no-sooner : i < earliest m w p → ⊥ = λ h. mismatch-alike s i p c (mismatch-false m w i p (f .before i h)) in
+            let no-sooner : i < earliest m w p
+            → ⊥ = λ h. mismatch-alike s i p c (mismatch-false m w i p (f .before i h)) in
             omega arith;
       }
 
@@ -66,7 +73,8 @@ module _ (m w : ℕ → ℕ) where
       mismatch-alike s q p c (maps-even m w n f r q p (omega arith) h)
 
   pub match-iff : (n : ℕ) → (answerOf m w n ≡ matched) ↔ Matches m w n
-  match-iff n = ((λ e. (imageOf m w n, subst (Right n) e (answer-right n))), (λ x. go (answerOf m w n) (answer-right n) x))
+  match-iff n =
+      ((λ e. (imageOf m w n, subst (Right n) e (answer-right n))), (λ x. go (answerOf m w n) (answer-right n) x))
     where
       go : (v : Answer) → Right n v → Matches m w n → v ≡ matched
       go matched r x = refl
@@ -85,7 +93,8 @@ module _ (m w : ℕ → ℕ) where
   one-side false true q p u v = absurd (u .1 (v .0))
   one-side false false q p u v = refl
 
-  least-unique : (n : ℕ) (s t : Bool) (q p q′ p′ : ℕ) → LeastMismatch s n q p → LeastMismatch t n q′ p′ → mismatched s q p ≡ mismatched t q′ p′
+  least-unique : (n : ℕ) (s t : Bool) (q p q′ p′ : ℕ) → LeastMismatch s n q p → LeastMismatch t n q′ p′
+      → mismatched s q p ≡ mismatched t q′ p′
   least-unique n s t q p q′ p′ l k =
       let ep : p ≡ p′ = omega (arith, l .later-first t q′ p′ (k .mismatch), k .later-first s q p (l .mismatch)) in
       let k₁ : LeastMismatch t n q′ p = rw ep k in

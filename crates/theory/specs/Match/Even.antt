@@ -1,15 +1,17 @@
--- The middle notion between a match and the absence of mismatches: any two positions are alike on both sides or on neither. It is symmetric
--- in pattern and window, so one law serves both columns of a bijection.
+-- The middle notion between a match and the absence of mismatches: any two positions are alike on both sides or on
+-- neither. It is symmetric in pattern and window, so one law serves both columns of a bijection.
 -- Assumes nothing.
-use mathlib.Core.Path.{_≡_, refl, sym, _∙_, ap, ap₂}
+use mathlib.Core.Path.{_≡_, refl, sym, _∙_, ap}
 use mathlib.Core.Bool.{Bool, true, false, not}
 use mathlib.Core.Logic.{⊎-elim}
 use Prim.Native.Nat.{ℕ, _<_, _≤_}
 use native.Mathlib.Omega.{arith}
 use borrow.Author.Tests.{ltb-true, ltb-false, eq-eqb, eqb-true}
 use lib.Dec.{eqb, ltb}
-use Rattle.theory.specs.Test.{pick, Tested, holds, fails, eq-tested, lt-tested, true-false, true-or-false}
-use Rattle.theory.specs.First.{first, First, first-spec}
+use Rattle.theory.specs.Test.{pick, Tested, holds, fails}
+use Rattle.theory.specs.Test.Laws.{eq-tested, lt-tested, true-false, true-or-false}
+use Rattle.theory.specs.First.{first, First}
+use Rattle.theory.specs.First.Laws.{first-spec}
 use Rattle.theory.specs.Match.{Maps, AlikeOnly, mismatchBy, mismatchAt, earliest, ends, imageOf}
 
 -- equal on one side exactly where equal on the other
@@ -36,11 +38,6 @@ compare a b x y = go (eq-tested a b) (eq-tested x y)
     go (fails g) (fails h) = alike (record { there = λ e. absurd (g e); back = λ f. absurd (h f) })
 
 module _ (m w : ℕ → ℕ) where
-  -- the test on four symbols, as code makes it, is the test on two positions
-  pub mismatch-by : (p q x y : ℕ) → y ≡ w q → x ≡ w p → mismatchBy (m q) (m p) y x ≡ mismatchAt m w p q
-  unfolding mismatchAt
-  mismatch-by p q x y e f = ap₂ (λ u v. mismatchBy (m q) (m p) u v) e f
-
   pub earliest-le : (p : ℕ) → earliest m w p ≤ p
   unfolding earliest
   earliest-le p = first-spec (mismatchAt m w p) p .within
@@ -63,7 +60,8 @@ module _ (m w : ℕ → ℕ) where
       go {t = false} (unlike u) e = u
 
   pub no-mismatch : (q p : ℕ) → Alike (m q) (m p) (w q) (w p) → mismatchAt m w p q ≡ false
-  no-mismatch q p a = ⊎-elim (λ t. absurd (go (eqb (m q) (m p)) (mismatch-true q p t))) (λ f. f) (true-or-false (mismatchAt m w p q))
+  no-mismatch q p a =
+      ⊎-elim (λ t. absurd (go (eqb (m q) (m p)) (mismatch-true q p t))) (λ f. f) (true-or-false (mismatchAt m w p q))
     where
       go : (t : Bool) → AlikeOnly t m w q p → ⊥
       go true u = u .1 (a .there (u .0))
@@ -81,7 +79,8 @@ module _ (m w : ℕ → ℕ) where
   unfolding ends earliest
   ends-not p a =
       let f = first-spec (mismatchAt m w p) p in
-      ⊎-elim (λ t. absurd (true-false (f .hit (ltb-true _ _ t)) (no-mismatch _ p (a _ (ltb-true _ _ t))))) (λ e. e) (true-or-false (ltb (first (mismatchAt m w p) p) p))
+      ⊎-elim (λ t. absurd (true-false (f .hit (ltb-true _ _ t)) (no-mismatch _ p (a _ (ltb-true _ _ t))))) (λ e. e)
+      (true-or-false (ltb (first (mismatchAt m w p) p) p))
 
   -- every two positions below n are alike on both sides or on neither
   abbrev pub Even : ℕ → Type 0

@@ -5,14 +5,17 @@ use mathlib.Core.Bool.{Bool}
 use Prim.Native.Nat.{ℕ, _<_}
 use native.Mathlib.Omega.{arith}
 use lib.Dec.{eqb, ltb}
-use Rattle.theory.specs.Test.{pick, Tested, holds, fails, lt-tested}
-use Rattle.theory.specs.First.{first-ext}
-use Rattle.theory.specs.Match.{mismatchBy, mismatchAt, earliest, ends, firstEnd, matched, mismatched, mismatchEnding, answerOf}
+use Rattle.theory.specs.Test.{pick, Tested, holds, fails}
+use Rattle.theory.specs.Test.Laws.{lt-tested}
+use Rattle.theory.specs.First.Laws.{first-ext}
+use Rattle.theory.specs.Match.{mismatchBy, mismatchAt, earliest, ends, firstEnd, matched, mismatched}
+use Rattle.theory.specs.Match.{mismatchEnding, answerOf}
 
 module _ (m w x : ℕ → ℕ) (n : ℕ) (same : (p : ℕ) → p < n → w p ≡ x p) where
   earliest-ext : (p : ℕ) → p < n → earliest m w p ≡ earliest m x p
   unfolding earliest mismatchAt
-  earliest-ext p h = first-ext _ _ p (λ q l. ap₂ (λ (u v : ℕ). mismatchBy (m q) (m p) u v) (same q (omega arith)) (same p h))
+  earliest-ext p h =
+      first-ext _ _ p (λ q l. ap₂ (λ (u v : ℕ). mismatchBy (m q) (m p) u v) (same q (omega arith)) (same p h))
 
   first-end-ext : firstEnd m w n ≡ firstEnd m x n
   unfolding firstEnd ends
@@ -24,7 +27,8 @@ module _ (m w x : ℕ → ℕ) (n : ℕ) (same : (p : ℕ) → p < n → w p ≡
 
   pub answer-ext : answerOf m w n ≡ answerOf m x n
   unfolding answerOf
-  answer-ext = go (lt-tested (firstEnd m w n) n) ∙ ap (λ (e : ℕ). pick (ltb e n) (mismatchEnding m x e) matched) first-end-ext
+  answer-ext =
+      go (lt-tested (firstEnd m w n) n) ∙ ap (λ (e : ℕ). pick (ltb e n) (mismatchEnding m x e) matched) first-end-ext
     where
       go : {t : Bool} → Tested (firstEnd m w n < n) t
           → pick t (mismatchEnding m w (firstEnd m w n)) matched ≡ pick t (mismatchEnding m x (firstEnd m w n)) matched

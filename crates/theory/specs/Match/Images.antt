@@ -1,4 +1,5 @@
--- The columns of a bijection while positions are passed: what one more position changes, and when a position agrees with those before it.
+-- The columns of a bijection while positions are passed: what one more position changes, and when a position agrees
+-- with those before it.
 -- Assumes nothing.
 use mathlib.Core.Path.{_≡_, refl, sym, _∙_, ap}
 use mathlib.Core.Bool.{Bool, true, false, not}
@@ -9,13 +10,16 @@ use borrow.Author.Tests.{ne-eqb}
 use lib.Dec.{eqb}
 use lib.ListN.{length, getD, set, length-set}
 use lib.Seq.{ext-getD, getD-set-same, getD-set-other}
-use Rattle.theory.specs.Test.{pick, Tested, holds, fails, eq-tested, true-or-false}
-use Rattle.theory.specs.Table.{length-table, getD-table}
+use Rattle.theory.specs.Test.{pick, Tested, holds, fails}
+use Rattle.theory.specs.Test.Laws.{eq-tested, true-or-false}
+use Rattle.theory.specs.Table.Laws.{length-table, getD-table}
 use Rattle.theory.specs.Columns.{Agree}
 use Rattle.theory.specs.Match.{ends, imageOf, column}
-use Rattle.theory.specs.Match.Even.{Alike, Even, even-if, ends-false, ends-not, Image, at, nowhere, image, even-carries, even-swap}
+use Rattle.theory.specs.Match.Even.{Alike, Even, even-if, ends-false, ends-not, Image, at, nowhere, image}
+use Rattle.theory.specs.Match.Even.{even-carries, even-swap}
 
--- two symbols may be paired, where f is the image of the first and g the preimage of the second, which is c: both have none, or they are paired already
+-- two symbols may be paired, where f is the image of the first and g the preimage of the second, which is c: both have
+-- none, or they are paired already
 abbrev pub agreesBy : ℕ → ℕ → ℕ → Bool
 agreesBy f g c = pick (eqb f 256) (eqb g 256) (eqb f c)
 
@@ -51,13 +55,15 @@ module _ (m w : ℕ → ℕ) where
       ext-getD 0 _ _ (simp (length-set, length-column))
       (λ i h. go i (rw length-column at h) (eq-tested i (m p)))
     where
-      go : (i : ℕ) {t : Bool} → i < 256 → Tested (i ≡ m p) t → getD (column m w (suc p)) i 0 ≡ getD (set (column m w p) (m p) (w p)) i 0
+      go : (i : ℕ) {t : Bool} → i < 256 → Tested (i ≡ m p) t
+          → getD (column m w (suc p)) i 0 ≡ getD (set (column m w p) (m p) (w p)) i 0
       go i h (holds e) =
           rw e
           (column-at (suc p) (m p) 0 small ∙ even-carries m w (suc p) ev p (omega arith)
           ∙ sym (getD-set-same (column m w p) (m p) (w p) 0 (rw length-column small)))
       go i h (fails ne) =
-          column-at (suc p) i 0 h ∙ image-other p i ev (λ e. ne (sym e)) ∙ sym (getD-set-other (column m w p) (m p) i (w p) 0 ne ∙ column-at p i 0 h)
+          column-at (suc p) i 0 h ∙ image-other p i ev (λ e. ne (sym e))
+          ∙ sym (getD-set-other (column m w p) (m p) i (w p) 0 ne ∙ column-at p i 0 h)
 
 module _ (m w : ℕ → ℕ) (p : ℕ) (clear : (k : ℕ) → k < p → ends m w k ≡ false) where
   ends-if : (k : ℕ) → k < p → (Alike (m k) (m p) (w k) (w p) → ⊥) → ends m w p ≡ true
@@ -83,10 +89,12 @@ module _ (m w : ℕ → ℕ) (p : ℕ) (clear : (k : ℕ) → k < p → ends m w
       rw (column-at m w p (m p) 0 (ms p), column-at w m p (w p) 0 (ws p))
       (go (image m w p (m p)) (image w m p (w p)))
     where
-      go : {u v : ℕ} → Image m w p (m p) u → Image w m p (w p) v → pick (eqb u 256) (eqb v 256) (eqb u (w p)) ≡ not (ends m w p)
+      go : {u v : ℕ} → Image m w p (m p) u → Image w m p (w p) v
+          → pick (eqb u 256) (eqb v 256) (eqb u (w p)) ≡ not (ends m w p)
       go (at k h e) y = rw (ne-eqb (w k) 256 (below (ws k))) (decided k h e)
       go (nowhere g) (at k h e) = ne-eqb (m k) 256 (below (ms k)) ∙ sym (ap not (ends-if k h (λ a. g k h (a .back e))))
-      go (nowhere g) (nowhere g′) = sym (ap not (ends-not m w p (λ q h. record { there = λ e. absurd (g q h e); back = λ e. absurd (g′ q h e) })))
+      go (nowhere g) (nowhere g′) =
+          sym (ap not (ends-not m w p (λ q h. record { there = λ e. absurd (g q h e); back = λ e. absurd (g′ q h e) })))
 
 -- an image leads back
 pub image-back : (m w : ℕ → ℕ) (n a b : ℕ) → Even m w n → b < 256 → imageOf m w n a ≡ b → imageOf w m n b ≡ a
@@ -104,7 +112,8 @@ image-le m w n a ws = go (image m w n a)
     go (nowhere g) = omega arith
 
 -- the two columns of a match agree
-pub columns-agree : (m w : ℕ → ℕ) (n : ℕ) → Even m w n → ((k : ℕ) → m k < 256) → ((k : ℕ) → w k < 256) → Agree (column m w n) (column w m n)
+pub columns-agree : (m w : ℕ → ℕ) (n : ℕ) → Even m w n → ((k : ℕ) → m k < 256) → ((k : ℕ) → w k < 256)
+    → Agree (column m w n) (column w m n)
 columns-agree m w n ev ms ws =
     record {
       forward-le = λ a h. rw (column-at m w n a 0 h) (image-le m w n a ws);

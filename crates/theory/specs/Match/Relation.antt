@@ -1,5 +1,6 @@
--- Matching is reflexive, symmetric and transitive; and where the window's symbols are bytes it makes no difference whether the mapping is
--- one-to-one on the pattern's symbols or on all numbers (symbols without an image then go to numbers above the bytes).
+-- Matching is reflexive, symmetric and transitive; and where the window's symbols are bytes it makes no difference
+-- whether the mapping is one-to-one on the pattern's symbols or on all numbers (symbols without an image then go to
+-- numbers above the bytes).
 -- Assumes nothing.
 use mathlib.Core.Path.{_≡_, refl, sym, _∙_, ap}
 use mathlib.Core.Bool.{Bool}
@@ -8,9 +9,11 @@ use Prim.Native.Nat.{ℕ, _+_, _<_}
 use native.Mathlib.Omega.{arith}
 use borrow.Author.Tests.{lt-ltb}
 use lib.Dec.{ltb}
-use Rattle.theory.specs.Test.{pick, pick-true, Tested, holds, fails, lt-tested}
+use Rattle.theory.specs.Test.{pick, Tested, holds, fails}
+use Rattle.theory.specs.Test.Laws.{pick-true, lt-tested}
 use Rattle.theory.specs.Match.{Matches, imageOf}
-use Rattle.theory.specs.Match.Even.{Even, even-carries, maps-even, even-maps, even-swap, Image, at, nowhere, image}
+use Rattle.theory.specs.Match.Even.{Even, even-carries, maps-even, even-maps, even-swap, Image, at, nowhere}
+use Rattle.theory.specs.Match.Even.{image}
 
 -- every sequence matches itself
 pub matches-self : (m : ℕ → ℕ) (n : ℕ) → Matches m m n
@@ -26,11 +29,15 @@ matches-trans m w x n (f, r) (g, s) = (
   (λ a. g (f a)),
   record {
     carries = λ p h. ap g (r .carries p h) ∙ s .carries p h;
-    one-to-one = λ p q h k e. r .one-to-one p q h k (r .carries p h ∙ s .one-to-one p q h k (ap g (sym (r .carries p h)) ∙ e ∙ ap g (r .carries q k)) ∙ sym (r .carries q k));
+    one-to-one =
+        λ p q h k e. r .one-to-one p q h k
+        (r .carries p h ∙ s .one-to-one p q h k (ap g (sym (r .carries p h)) ∙ e ∙ ap g (r .carries q k))
+        ∙ sym (r .carries q k));
   },
 )
 
--- a one-to-one mapping of all symbols carries the pattern onto the window
+-- a mapping of all numbers that is one-to-one on all of them carries the pattern onto the window. (It may give numbers
+-- that are no symbols where the pattern has none; a renaming of symbols alone is `MatchesColumns`.)
 abbrev pub MatchesTotal : (ℕ → ℕ) → (ℕ → ℕ) → ℕ → Type 0
 MatchesTotal m w n = (f : ℕ → ℕ) × ((a b : ℕ) → f a ≡ f b → a ≡ b) × ((p : ℕ) → p < n → f (m p) ≡ w p)
 

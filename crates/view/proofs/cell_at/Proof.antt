@@ -1,12 +1,12 @@
--- `view::cell_at` meets its contract: the place is formed as the window's reading says. The row's number is small, since a row of the text has at least
--- one cell.
+-- `view::cell_at` meets its contract: the place is formed as the window's reading says. The row's number is small,
+-- since a row of the text has at least one cell.
 -- Assumes nothing.
 use mathlib.Core.Path.{sym}
 use Prim.Native.Nat.{_+_, _/_}
 use native.Mathlib.Nat.{le-mul-of-pos-right}
 use native.Mathlib.Omega.{arith}
 use borrow.Author.Needs.{needs}
-use Rattle.shapes.specs.Windows.{window-at}
+use Rattle.shapes.specs.Windows.Laws.{window-at}
 use Rattle.view.proofs.cell_at.Statement.{statement}
 use Rattle.view.proofs.cell_at.Tie as tie
 

@@ -1,5 +1,5 @@
--- `view::row_part` meets its contract: the part begins at the row's first cell and has as many cells as the window is wide. The row's number is small,
--- since a row of the text has at least one cell.
+-- `view::row_part` meets its contract: the part begins at the row's first cell and has as many cells as the window is
+-- wide. The row's number is small, since a row of the text has at least one cell.
 -- Assumes nothing.
 use mathlib.Core.Path.{_≡_}
 use mathlib.Core.List.{List}
@@ -9,7 +9,8 @@ use native.Mathlib.Omega.{arith}
 use lib.ListN.{take, drop}
 use denote.Ref.{now}
 use borrow.Author.Needs.{needs}
-use Rattle.shapes.specs.Windows.{rowCells, row-cells-is}
+use Rattle.shapes.specs.Windows.{rowCells}
+use Rattle.shapes.specs.Windows.Laws.{row-cells-is}
 use Rattle.view.proofs.row_part.Statement.{statement}
 use Rattle.view.proofs.row_part.Tie as tie
 

@@ -1,7 +1,7 @@
--- `view::symbol_of` meets its contract: a walk of its MIR, by hand. The view is taken apart, and `cell_at` is called on the slice and the numbers. All that the
--- proof knows of `cell_at` is that it meets its contract.
--- The view is Copy: one copy of what it owns is kept whole for the exit, and of the other what the text owns goes to the callee, beside the lifetime's token,
--- which comes back.
+-- `view::symbol_of` meets its contract: a walk of its MIR, by hand. The view is taken apart, and `cell_at` is called on
+-- the slice and the numbers. All that the proof knows of `cell_at` is that it meets its contract. The view is Copy: one
+-- copy of what it owns is kept whole for the exit, and of the other what the text owns goes to the callee, beside the
+-- lifetime's token, which comes back.
 -- Assumes nothing.
 use mathlib.Core.Path.{_≡_, refl}
 use Prim.Native.Nat.{ℕ, _<_, _^_}
@@ -18,9 +18,11 @@ use prog.Wp.{Heap, Calls, Loops, WpFn, Tables}
 use ghost.Atoms.{Atoms, sem}
 use contract.Monad.{Fun, fact}
 use contract.Running.{givenOf, tables, tablesOf}
-use types.Kit.{Given, ‵, raw, _⊛_, ⋆, some, later, _$_, _∵_, !, qed, by, move, use1, use2, split, pick, suffices, frame, await, done}
+use types.Kit.{Given, ‵, raw, _⊛_, ⋆, some, later, _$_, _∵_, !, qed, by, move, use1, use2, split, pick, suffices, frame}
+use types.Kit.{await, done}
 use types.Part.{whole, sub, look-in}
-use types.Run.{look, init, forget, stop, fld, from, load, of-opd, and-then, no-more, assigns, land, returns, enter, alloc1, alloc0, params1, pass1, pass0, free1, free0}
+use types.Run.{look, init, forget, stop, fld, from, load, of-opd, and-then, no-more, assigns, land, returns, enter}
+use types.Run.{alloc1, alloc0, params1, pass1, pass0, free1, free0}
 use sound.WpLaws.{FmC, fmOf, WpFn-mono}
 use denote.RattleType.{owns}
 use denote.Laws.{Is, shows}

@@ -1,6 +1,7 @@
--- `view::window_row` meets its contract: a walk of its MIR, by hand. A view is made in a local and passed to `row_of`. All that the proof knows of the two
--- functions that it calls is that they meet their contracts.
--- A slice is Copy: one copy of what it owns is kept for the exit, and the other goes into the view. The slice that the callee hands back is the result.
+-- `view::window_row` meets its contract: a walk of its MIR, by hand. A view is made in a local and passed to `row_of`.
+-- All that the proof knows of the two functions that it calls is that they meet their contracts. A slice is Copy: one
+-- copy of what it owns is kept for the exit, and the other goes into the view. The slice that the callee hands back is
+-- the result.
 -- Assumes nothing.
 use mathlib.Core.Path.{_≡_, refl, _∙_}
 use Prim.Native.Nat.{ℕ, _+_}
@@ -16,8 +17,10 @@ use prog.Wp.{Heap, Calls, Loops, WpFn, Tables}
 use ghost.Atoms.{Atoms, sem}
 use contract.Monad.{Fun, fact}
 use contract.Running.{givenOf, tables, tablesOf}
-use types.Kit.{Given, ‵, raw, _⊛_, ⋆, some, later, _$_, _∵_, !, qed, by, move, use1, use2, split, pick, suffices, frame, await, done}
-use types.Run.{look, init, forget, stop, from, load, and-then, no-more, land, returns, enter, alloc1, alloc0, params1, pass1, pass0, free1, free0}
+use types.Kit.{Given, ‵, raw, _⊛_, ⋆, some, later, _$_, _∵_, !, qed, by, move, use1, use2, split, pick, suffices, frame}
+use types.Kit.{await, done}
+use types.Run.{look, init, forget, stop, from, load, and-then, no-more, land, returns, enter, alloc1, alloc0, params1}
+use types.Run.{pass1, pass0, free1, free0}
 use sound.WpLaws.{FmC, fmOf, WpFn-mono}
 use denote.RattleType.{owns}
 use denote.Laws.{Is, shows}
@@ -33,13 +36,15 @@ use denote.Triple.Call.{calls-at}
 use denote.Triple.Entry.{Vals, onEntry}
 use denote.Triple.Spec.{Meets, tripleOf}
 use denote.Triple.Table.{entered, cited}
-use denote.Triple.Walked.{says, needs, Stays, stay-none, stay-none-slice, walkOf, goes-none, goes-none-slice, Walks, ends-at, walked, walk-meets}
+use denote.Triple.Walked.{says, needs, Stays, stay-none, stay-none-slice, walkOf, goes-none, goes-none-slice, Walks}
+use denote.Triple.Walked.{ends-at, walked, walk-meets}
 use denote.Triple.Clauses.{ensured, lasts}
 use denote.Exit.{yes}
 use Rattle.shapes.specs.Windows.{rowCells}
 use Rattle.view.specs.Inside.{RowInside}
 use Rattle.view.specs.declared.WindowView.{WindowView}
-use Rattle.view.proofs.Shared.{B, S, num, slice, Small, slice-beside, view-beside, New, to-new, Made, made-ensured, made-says, made-asks}
+use Rattle.view.proofs.Shared.{B, S, num, slice, Small, slice-beside, view-beside, New, to-new, Made}
+use Rattle.view.proofs.Shared.{made-ensured, made-says, made-asks}
 use Rattle.view.proofs.WindowView as T
 use Rattle.view.proofs.WindowView.Laws as T′
 use Rattle.view.proofs.window_view.Symbol as new-def

@@ -1,5 +1,6 @@
--- `view::window_view` meets its contract: a walk of its MIR, by hand. A view is made of the slice and the three numbers passed, in the result's local.
--- A slice is Copy, so what it owns is had twice: once for the text at exit, and once inside the result, beside the facts of the numbers.
+-- `view::window_view` meets its contract: a walk of its MIR, by hand. A view is made of the slice and the three numbers
+-- passed, in the result's local. A slice is Copy, so what it owns is had twice: once for the text at exit, and once
+-- inside the result, beside the facts of the numbers.
 -- Assumes nothing.
 use mathlib.Core.Path.{refl}
 use Prim.Native.Nat.{ℕ, _<_, _^_}
@@ -17,7 +18,8 @@ use contract.Monad.{Fun}
 use contract.Running.{givenOf, tables, tablesOf}
 use types.Kit.{Given, ‵, raw, _⊛_, _$_, _∵_, !, qed, by, move, use1, split, fsplit, fjoin, suffices, frame}
 use types.Part.{agg}
-use types.Run.{look, init, forget, stop, from, load, and-then, no-more, assigns, returns, enter, alloc1, alloc0, params1, pass1, pass0, free1, free0}
+use types.Run.{look, init, forget, stop, from, load, and-then, no-more, assigns, returns, enter, alloc1, alloc0}
+use types.Run.{params1, pass1, pass0, free1, free0}
 use sound.WpLaws.{WpFn-mono}
 use denote.RattleType.{owns}
 use denote.Laws.{Is}
@@ -31,7 +33,8 @@ use denote.Struct.Rest.{own-shut}
 use denote.Triple.Entry.{Vals, onEntry}
 use denote.Triple.Spec.{Meets, tripleOf}
 use denote.Triple.Table.{entered}
-use denote.Triple.Walked.{says, Stays, stay-none, stay-none-slice, walkOf, goes-none, goes-none-slice, Walks, ends-at, walked, walk-meets}
+use denote.Triple.Walked.{says, Stays, stay-none, stay-none-slice, walkOf, goes-none, goes-none-slice, Walks, ends-at}
+use denote.Triple.Walked.{walked, walk-meets}
 use denote.Exit.{yes}
 use Rattle.view.specs.declared.WindowView.{WindowView}
 use Rattle.view.proofs.Shared.{S, num, slice}

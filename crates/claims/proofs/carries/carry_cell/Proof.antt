@@ -1,5 +1,5 @@
--- `carries::carry_cell` meets its contract. A symbol with the wanted image changes nothing; one with an entry below base was not met in this window, so
--- that its image may be stored.
+-- `carries::carry_cell` meets its contract. A symbol with the wanted image changes nothing; one with an entry below
+-- base was not met in this window, so that its image may be stored.
 -- Assumes nothing.
 use mathlib.Core.Path.{refl}
 use mathlib.Core.Bool.{false≢true}

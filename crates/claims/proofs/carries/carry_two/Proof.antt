@@ -1,4 +1,5 @@
--- `carries::carry_two` meets its contract: two images that are the wanted ones are two cells that carry (`two-same`); else it is one cell after the other.
+-- `carries::carry_two` meets its contract: two images that are the wanted ones are two cells that carry (`two-same`);
+-- else it is one cell after the other.
 -- Assumes nothing.
 use mathlib.Core.Path.{refl}
 use mathlib.Core.Bool.{false≢true}

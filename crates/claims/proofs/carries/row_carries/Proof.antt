@@ -1,5 +1,5 @@
--- `carries::row_carries` meets its contract. The invariant: the cells before j carry, and what was given before the row is kept. A round takes two cells
--- more, and behind the loop at most one is left.
+-- `carries::row_carries` meets its contract. The invariant: the cells before j carry, and what was given before the row
+-- is kept. A round takes two cells more, and behind the loop at most one is left.
 -- Assumes nothing.
 use mathlib.Core.Path.{_≡_}
 use mathlib.Core.Bool.{false≢true}

@@ -1,4 +1,5 @@
--- `mismatches::alike_only` meets its contract: the four symbols are those of the two cells, and each side's test is the definition's.
+-- `mismatches::alike_only` meets its contract: the four symbols are those of the two cells, and each side's test is the
+-- definition's.
 -- Assumes nothing.
 use mathlib.Core.Path.{_≡_, _∙_}
 use mathlib.Core.Bool.{Bool, true, false, not}
@@ -8,9 +9,9 @@ use borrow.Author.Needs.{needs}
 use borrow.Author.Tests.{eq-eqb, ne-eqb}
 use denote.Ref.{now}
 use Rattle.theory.specs.Test.{both}
+use Rattle.theory.specs.Test.Laws.{first-fails, first-passes}
 use Rattle.matching.specs.Compare.{patternAt, windowOf}
 use Rattle.claims.specs.Claims.{alikeOnly}
-use Rattle.theory.specs.Test.{first-fails, first-passes}
 use Rattle.claims.specs.Mismatches.{alike-in-pattern, alike-in-window}
 use Rattle.claims.proofs.mismatches.alike_only.Statement.{statement}
 use Rattle.claims.proofs.mismatches.alike_only.Tie as tie

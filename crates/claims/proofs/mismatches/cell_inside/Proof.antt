@@ -2,7 +2,7 @@
 -- Assumes nothing.
 use borrow.Author.Needs.{needs}
 use borrow.Author.Tests.{lt-ltb, le-ltb}
-use Rattle.theory.specs.Test.{first-fails, first-passes}
+use Rattle.theory.specs.Test.Laws.{first-fails, first-passes}
 use Rattle.claims.proofs.mismatches.cell_inside.Statement.{statement}
 use Rattle.claims.proofs.mismatches.cell_inside.Tie as tie
 

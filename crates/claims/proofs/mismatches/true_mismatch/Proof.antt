@@ -1,4 +1,5 @@
--- `mismatches::true_mismatch` meets its contract: its tests are the definition's, in the same order, and two cells inside are read inside.
+-- `mismatches::true_mismatch` meets its contract: its tests are the definition's, in the same order, and two cells
+-- inside are read inside.
 -- Assumes nothing.
 use mathlib.Core.Path.{_≡_, sym, _∙_}
 use mathlib.Core.Bool.{true}
@@ -7,10 +8,11 @@ use Prim.Native.Nat.{_+_, _*_, _≤_, _<_}
 use borrow.Author.Needs.{needs}
 use borrow.Author.Tests.{not-true, not-false}
 use denote.Ref.{now}
-use Rattle.matching.specs.Compare.{cellsOf}
-use Rattle.matching.specs.Compare.Positions.{cells-small}
+use Rattle.matching.specs.Compare.{cellCount}
+use Rattle.matching.specs.Compare.Positions.{positions-small}
 use Rattle.claims.specs.Claims.{cellInside}
-use Rattle.claims.specs.Mismatches.{cell-position, inside-says, earlier-outside, later-outside, not-in-order, in-order}
+use Rattle.claims.specs.Mismatches.{cell-position, inside-says, earlier-outside, later-outside, not-in-order}
+use Rattle.claims.specs.Mismatches.{in-order}
 use Rattle.claims.proofs.mismatches.true_mismatch.Statement.{statement}
 use Rattle.claims.proofs.mismatches.true_mismatch.Tie as tie
 
@@ -24,20 +26,20 @@ second c = sym (c .before .cell-inside2 .ensures) ∙ not-false _ (c .if2 .left)
 
 -- their positions are small
 first-small : (c : tie.Else1) → let a = c .before .before .before .before .args in
-    (a .earlier .row * a .v .width + a .earlier .column < cellsOf (a .v)) × (cellsOf (a .v) ≤ 65025)
+    (a .earlier .row * a .v .width + a .earlier .column < cellCount (a .v)) × (cellCount (a .v) ≤ 65025)
 first-small c =
     let o = c .before .before .before .before in
     let a = o .args in
     let i = inside-says (a .v .height) (a .v .width) (a .earlier .row) (a .earlier .column) (first c) in
-    (cell-position (a .v) (a .earlier .row) (a .earlier .column) (i .0) (i .1), cells-small (now (a .text)) (a .v) (o .pre .0))
+    (cell-position (a .v) (a .earlier .row) (a .earlier .column) (i .0) (i .1), positions-small (now (a .text)) (a .v) (o .pre .0))
 
 second-small : (c : tie.Else2) → let a = c .before .before .before .before .before .before .args in
-    (a .later .row * a .v .width + a .later .column < cellsOf (a .v)) × (cellsOf (a .v) ≤ 65025)
+    (a .later .row * a .v .width + a .later .column < cellCount (a .v)) × (cellCount (a .v) ≤ 65025)
 second-small c =
     let o = c .before .before .before .before .before .before in
     let a = o .args in
     let i = inside-says (a .v .height) (a .v .width) (a .later .row) (a .later .column) (second c) in
-    (cell-position (a .v) (a .later .row) (a .later .column) (i .0) (i .1), cells-small (now (a .text)) (a .v) (o .pre .0))
+    (cell-position (a .v) (a .later .row) (a .later .column) (i .0) (i .1), positions-small (now (a .text)) (a .v) (o .pre .0))
 
 cell-inside-requires : tie.Need-cell-inside-requires
 cell-inside-requires c κs = search needs

@@ -1,4 +1,5 @@
--- `mismatches::window_symbol_in` meets its contract: the place is formed as the window's reading says (`window-cell`), and lies in the text.
+-- `mismatches::window_symbol_in` meets its contract: the place is formed as the window's reading says (`window-cell`),
+-- and lies in the text.
 -- Assumes nothing.
 use mathlib.Core.Path.{sym}
 use native.Mathlib.Omega.{arith}
@@ -6,7 +7,7 @@ use Prim.Native.Nat.{_+_, _*_, _≤_, _<_}
 use lib.ListN.{length}
 use borrow.Author.Needs.{needs}
 use denote.Ref.{now}
-use Rattle.shapes.specs.Windows.{window-cell}
+use Rattle.shapes.specs.Windows.Laws.{window-cell}
 use Rattle.matching.specs.Compare.Positions.{rows-small}
 use Rattle.claims.specs.Mismatches.{cell-in-text}
 use Rattle.claims.proofs.mismatches.window_symbol_in.Statement.{statement}

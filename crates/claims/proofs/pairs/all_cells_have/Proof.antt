@@ -1,4 +1,5 @@
--- `pairs::all_cells_have` meets its contract. The invariant: no cell before p has a in the pattern and another symbol than b in the window.
+-- `pairs::all_cells_have` meets its contract. The invariant: no cell before p has a in the pattern and another symbol
+-- than b in the window.
 -- Assumes nothing.
 use mathlib.Core.Path.{sym, _∙_}
 use mathlib.Core.Logic.{⊎-elim}
@@ -7,7 +8,7 @@ use Prim.Native.Nat.{_-_}
 use lib.ListN.{length}
 use denote.Ref.{now}
 use Rattle.matching.specs.Compare.{patternAt, windowOf}
-use Rattle.matching.specs.Compare.Positions.{cells-small}
+use Rattle.matching.specs.Compare.Positions.{positions-small}
 use Rattle.claims.specs.Pairs.{ImageTo, image-none, image-more, image-all, image-other}
 use Rattle.claims.proofs.pairs.all_cells_have.Statement.{statement}
 use Rattle.claims.proofs.pairs.all_cells_have.Tie as tie
@@ -36,7 +37,7 @@ returns c =
     (λ e. c .if2 .taken (c .before .symbol-at .ensures ∙ e)))
 
 add-p : tie.Need-add-p Inv-loop μ-loop
-add-p c = let o = c .before .before .before .before .before .before in omega (arith, c .before .before .loop-test .taken, o .pre .1, cells-small _ _ (o .pre .0))
+add-p c = let o = c .before .before .before .before .before .before in omega (arith, c .before .before .loop-test .taken, o .pre .1, positions-small _ _ (o .pre .0))
 
 loop-less : tie.Need-loop-less Inv-loop μ-loop
 loop-less c = omega (arith, c .before .before .loop-test .taken)

@@ -1,4 +1,5 @@
--- `pairs::has_image` meets its contract: where the images carry, the symbol's image says it (`image-carried`), and otherwise every cell is asked.
+-- `pairs::has_image` meets its contract: where the images carry, the symbol's image says it (`image-carried`), and
+-- otherwise every cell is asked.
 -- Assumes nothing.
 use borrow.Author.Needs.{needs}
 use denote.Ref.{now}

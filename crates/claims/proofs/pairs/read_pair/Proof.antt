@@ -1,5 +1,5 @@
--- `pairs::read_pair` meets its contract: each way out is a law of the pair (`pair-refused`, `pair-other-kind`, `pair-other`, `pair-given`, `pair-unlike`,
--- `pair-right`), whatever symbols were given before.
+-- `pairs::read_pair` meets its contract: each way out is a law of the pair (`pair-refused`, `pair-other-kind`,
+-- `pair-other`, `pair-given`, `pair-unlike`, `pair-right`), whatever symbols were given before.
 -- Assumes nothing.
 use mathlib.Core.Path.{_≡_}
 use mathlib.Core.Logic.{inl, inr}
@@ -14,7 +14,8 @@ use Rattle.listing.specs.Records.{bytesOf}
 use Rattle.listing.specs.declared.records.Record.{Record}
 use Rattle.listing.specs.declared.records.Record.the-variants.{Found, Pair, AlikeInPattern, AlikeInWindow, Closing}
 use Rattle.listing.proofs.records.Record.{the-type}
-use Rattle.claims.specs.Pairs.Reading.{pair-refused, pair-other-kind, pair-other, pair-given, pair-unlike, pair-right}
+use Rattle.claims.specs.Pairs.Reading.{pair-refused, pair-other-kind, pair-other, pair-given, pair-unlike}
+use Rattle.claims.specs.Pairs.Reading.{pair-right}
 use Rattle.claims.proofs.pairs.read_pair.Statement.{statement}
 use Rattle.claims.proofs.pairs.read_pair.Tie as tie
 

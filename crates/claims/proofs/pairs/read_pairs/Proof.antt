@@ -1,4 +1,5 @@
--- `pairs::read_pairs` meets its contract. The invariant: the pairs of the first i symbols, with those of the symbols left, give the whole course.
+-- `pairs::read_pairs` meets its contract. The invariant: the pairs of the first i symbols, with those of the symbols
+-- left, give the whole course.
 -- Assumes nothing.
 use mathlib.Core.Path.{refl}
 use mathlib.Core.List.{[]}
@@ -8,28 +9,30 @@ use lib.ListN.{length}
 use borrow.Author.Needs.{needs}
 use denote.Ref.{now}
 use Rattle.sets.specs.Symbols.{symbolsOf}
-use Rattle.matching.specs.Compare.{patternAt, windowOf, cellsOf}
-use Rattle.claims.specs.Claims.{Course, pairsFrom}
-use Rattle.claims.specs.Pairs.Rising.{PairsLeft, listed-has, left-all, left-none, left-stopped, left-passed, marks-next}
+use Rattle.matching.specs.Compare.{patternAt, windowOf, cellCount}
+use Rattle.claims.specs.Claims.{pairsFrom}
+use Rattle.claims.specs.declared.walks.Walk.{Walk}
+use Rattle.claims.specs.Pairs.Rising.{PairsLeft, listed-has, symbols-left-all, symbols-left-none, left-stopped}
+use Rattle.claims.specs.Pairs.Rising.{left-passed, marks-next}
 use Rattle.claims.proofs.pairs.read_pairs.Statement.{statement}
 use Rattle.claims.proofs.pairs.read_pairs.Tie as tie
 
 abbrev Inv-loop : tie.InvT-loop
 Inv-loop text v pattern carried base images given₀ symbols listing at end₀ i₀ given end i =
-    PairsLeft (patternAt pattern) (windowOf text v) (cellsOf v) listing symbols base
-    (pairsFrom (patternAt pattern) (windowOf text v) (cellsOf v) listing (symbolsOf pattern) [] at) i end given
+    PairsLeft (patternAt pattern) (windowOf text v) (cellCount v) listing symbols base
+    (pairsFrom (patternAt pattern) (windowOf text v) (cellCount v) listing (symbolsOf pattern) [] at) i end given
 
 abbrev μ-loop : tie.MeasureT-loop
 μ-loop text v pattern carried base images given₀ symbols listing at end₀ i₀ given end i = length symbols - i
 
--- the course of all pairs
-abbrev whole : tie.Start Inv-loop μ-loop → Course
+-- the walk over all pairs
+abbrev whole : tie.Start Inv-loop μ-loop → Walk
 whole o =
     let a = o .args in
-    pairsFrom (patternAt (now (a .pattern))) (windowOf (now (a .text)) (a .v)) (cellsOf (a .v)) (now (a .listing)) (symbolsOf (now (a .pattern))) [] (a .at)
+    pairsFrom (patternAt (now (a .pattern))) (windowOf (now (a .text)) (a .v)) (cellCount (a .v)) (now (a .listing)) (symbolsOf (now (a .pattern))) [] (a .at)
 
 loop-holds : tie.Need-loop-holds Inv-loop μ-loop
-loop-holds c = let o = c .before .before .before .before .before in left-all _ _ _ _ _ _ _ _ _ (o .pre .1) (o .pre .2)
+loop-holds c = let o = c .before .before .before .before .before in symbols-left-all _ _ _ _ _ _ _ _ _ (o .pre .1) (o .pre .2)
 
 shared-slice-read-a : tie.Need-shared-slice-read-a Inv-loop μ-loop
 shared-slice-read-a c = omega arith
@@ -71,7 +74,7 @@ loop-again c =
 returns-2 : tie.Need-returns-2 Inv-loop μ-loop
 returns-2 c =
     let i = c .before .loop .inv in
-    (left-none _ _ _ _ _ _ (whole (c .before .before .before .before .before .before .before)) _ _ _ i (omega (arith, c .loop-test .left)), marks-next _ _ (i .marked .older))
+    (symbols-left-none _ _ _ _ _ _ (whole (c .before .before .before .before .before .before .before)) _ _ _ i (omega (arith, c .loop-test .left)), marks-next _ _ (i .marked .older))
 
 pub read-pairs-spec : {M : Type 1} → statement M
 read-pairs-spec =

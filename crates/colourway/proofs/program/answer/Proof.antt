@@ -1,8 +1,9 @@
--- `program::answer` meets its contract: refused by the input, its number is the program's; else what is searched is printed.
+-- `program::answer` meets its contract: refused by the input, its number is the program's; else what is searched is
+-- printed.
 -- Assumes nothing.
 use mathlib.Core.List.{[]}
-use Rattle.shapes.specs.Said.{passed-said}
-use Rattle.colourway.specs.Program.Accepted.{input-passed}
+use Rattle.shapes.specs.Said.Laws.{passed-said}
+use Rattle.input.specs.Input.Accepted.{input-passed}
 use Rattle.colourway.specs.Program.Searched.{counted, refused-before}
 use borrow.Author.Needs.{needs}
 use Rattle.colourway.proofs.program.answer.Statement.{statement}

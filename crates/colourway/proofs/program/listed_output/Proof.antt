@@ -1,4 +1,5 @@
--- `program::listed_output` meets its contract: the lines are written at the start of the buffer, which has room for them.
+-- `program::listed_output` meets its contract: the lines are written at the start of the buffer, which has room for
+-- them.
 -- Assumes nothing.
 use native.Mathlib.Omega.{arith}
 use Rattle.printing.specs.Lines.Front.{lines-front}

@@ -1,4 +1,5 @@
--- `program::refused_output` meets its contract: the refusal's line is written at the start of the buffer, which has room for it.
+-- `program::refused_output` meets its contract: the refusal's line is written at the start of the buffer, which has
+-- room for it.
 -- Assumes nothing.
 use native.Mathlib.Omega.{arith}
 use Rattle.printing.specs.Lines.Writing.{refusal-length}

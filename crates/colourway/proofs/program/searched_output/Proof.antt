@@ -1,5 +1,5 @@
--- `program::searched_output` meets its contract: the search has run on the input's text and pattern (`has-run`), so that what it answers is printed as the
--- output is to be.
+-- `program::searched_output` meets its contract: the search has run on the input's text and pattern (`has-run`), so
+-- that what it answers is printed as the output is to be.
 -- Assumes nothing.
 use mathlib.Core.Path.{sym}
 use native.Mathlib.Omega.{arith}

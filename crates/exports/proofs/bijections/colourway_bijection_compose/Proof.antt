@@ -1,4 +1,5 @@
--- `compose` fixes the number and the bijection, of the bijections that the columns held; `write_answer` hands both over.
+-- `compose` fixes the number and the bijection, of the bijections that the columns held; `write_answer` hands both
+-- over.
 -- Assumes nothing.
 use mathlib.Core.Path.{_≡_, _∙_, ap}
 use Rattle.shapes.specs.Said.{saidNumber}

@@ -4,7 +4,7 @@ use mathlib.Core.Path.{_∙_, ap}
 use borrow.Author.Needs.{needs}
 use denote.Ref.{now}
 use Rattle.shapes.specs.Said.{Said, saidNumber}
-use Rattle.values.specs.Checking.{countsBy}
+use Rattle.values.specs.Returned.{valuesBy}
 use Rattle.exports.proofs.checking.colourway_check.Statement.{statement}
 use Rattle.exports.proofs.checking.colourway_check.Tie as tie
 
@@ -22,7 +22,7 @@ returns c =
     let a = c .before .before .before .before .before .before .before .args in
     let e = c .before .before .before .check .ensures .0 in (
       c .before .before .checked-number .ensures ∙ ap saidNumber e,
-      c .checked-totals .ensures ∙ ap (λ (x : Said). countsBy x (now (a .totals))) e,
+      (c .checked-totals .ensures ∙ ap (λ (x : Said). valuesBy 0 x (now (a .totals))) e, c .before .before .before .check .ensures .1),
     )
 
 pub colourway-check-spec : {M : Type 1} → statement M

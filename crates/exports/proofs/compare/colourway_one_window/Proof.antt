@@ -3,7 +3,7 @@
 use mathlib.Core.Path.{sym, _∙_}
 use denote.Ref.{now}
 use Rattle.shapes.specs.Questions.{ask}
-use Rattle.values.specs.Compare.{window-number, window-kept, window-new}
+use Rattle.values.specs.Compare.Laws.{window-number, window-kept, window-new}
 use borrow.Author.Needs.{needs}
 use Rattle.exports.proofs.compare.colourway_one_window.Statement.{statement}
 use Rattle.exports.proofs.compare.colourway_one_window.Tie as tie
@@ -18,7 +18,7 @@ returns : tie.Need-returns
 returns c =
     let n = c .before in
     let a = n .before .before .before .before .before .args in
-    let answers = n .before .before .one-window .ensures in
+    let answers = n .before .before .one-window .ensures .0 in
     let k = window-kept (ask (now (a .text)) (a .rows) (a .columns) (now (a .pattern)) (a .height) (a .width)) (a .row) (a .column) (n .before .before .one-window .result) answers (λ z. c .if1 .taken (n .verdict-number .ensures ∙ z)) _ _ in
     (n .verdict-number .ensures ∙ window-number (ask (now (a .text)) (a .rows) (a .columns) (now (a .pattern)) (a .height) (a .width)) (a .row) (a .column) (n .before .before .one-window .result) answers, (k .0, k .1))
 
@@ -32,7 +32,7 @@ returns-2 : tie.Need-returns-2
 returns-2 c =
     let n = c .before .before .before .before .before in
     let a = n .before .before .before .before .before .args in
-    let answers = n .before .before .one-window .ensures in
+    let answers = n .before .before .one-window .ensures .0 in
     let accepted = sym (n .verdict-number .ensures) ∙ c .before .before .before .before .if1 .left in
     let k = window-new (ask (now (a .text)) (a .rows) (a .columns) (now (a .pattern)) (a .height) (a .width)) (a .row) (a .column) (n .before .before .one-window .result) answers accepted _ _ _ _ (c .before .write-columns .ensures) (c .verdict-values .ensures) in
     (n .verdict-number .ensures ∙ window-number (ask (now (a .text)) (a .rows) (a .columns) (now (a .pattern)) (a .height) (a .width)) (a .row) (a .column) (n .before .before .one-window .result) answers, (k .0, k .1))

@@ -1,11 +1,12 @@
--- `searching::colourway_search` meets its contract: the search fixes number, values and buffers, and the totals are its values (`answer-totals`).
+-- `searching::colourway_search` meets its contract: the search fixes number, values and buffers, and the totals are its
+-- values.
 -- Assumes nothing.
 use mathlib.Core.Path.{_∙_, ap}
 use borrow.Author.Needs.{needs}
 use denote.Ref.{now}
 use Rattle.shapes.specs.Said.{saidNumber}
 use Rattle.search.specs.Search.{Done}
-use Rattle.values.specs.Searching.{totalsBy}
+use Rattle.values.specs.Returned.{valuesBy}
 use Rattle.exports.proofs.searching.colourway_search.Statement.{statement}
 use Rattle.exports.proofs.searching.colourway_search.Tie as tie
 
@@ -15,8 +16,8 @@ search-requires c κs = search needs
 searched-number-requires : tie.Need-searched-number-requires
 searched-number-requires c κs = search needs
 
-totals-in-requires : tie.Need-totals-in-requires
-totals-in-requires c κs = search needs
+searched-totals-requires : tie.Need-searched-totals-requires
+searched-totals-requires c κs = search needs
 
 same-length : tie.Need-same-length
 same-length c = search needs
@@ -33,9 +34,10 @@ same-length-4 c = search needs
 returns : tie.Need-returns
 returns c =
     let o = c .before .before .before .before .before .before .before .before .before .before .before .before .before .before .before .before .before .before .before .before .before .before in
-    let e = c .before .before .before .before .before .before .before .before .before .before .before .search .ensures .0 in (
+    let s = c .before .before .before .before .before .before .before .before .before .before .before .search in
+    let e = s .ensures .0 in (
       c .before .before .searched-number .ensures ∙ ap (λ (d : Done). saidNumber (d .said)) e,
-      (c .totals-in .ensures ∙ ap (λ (d : Done). totalsBy (d .said) (now (o .args .totals))) e, ap (λ (d : Done). d .lent) e),
+      (c .searched-totals .ensures ∙ ap (λ (d : Done). valuesBy 2 (d .said) (now (o .args .totals))) e, (ap (λ (d : Done). d .lent) e, s .ensures .1)),
     )
 
 pub colourway-search-spec : {M : Type 1} → statement M
@@ -44,7 +46,7 @@ colourway-search-spec =
     (tie.spec
     search-requires
     searched-number-requires
-    totals-in-requires
+    searched-totals-requires
     same-length
     same-length-2
     same-length-3

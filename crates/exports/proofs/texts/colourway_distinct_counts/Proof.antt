@@ -2,6 +2,7 @@
 -- Assumes nothing.
 use mathlib.Core.Path.{_∙_, ap}
 use Rattle.shapes.specs.Said.{saidNumber}
+use Rattle.shapes.specs.Said.Laws.{same-said, same-buffer}
 use borrow.Author.Needs.{needs}
 use Rattle.exports.proofs.texts.colourway_distinct_counts.Statement.{statement}
 use Rattle.exports.proofs.texts.colourway_distinct_counts.Tie as tie
@@ -17,8 +18,8 @@ same-length c = search needs
 
 returns : tie.Need-returns
 returns c = (
-  c .outcome-number .ensures ∙ ap saidNumber (c .before .before .before .distinct-counts .ensures .0),
-  c .before .before .before .distinct-counts .ensures .1,
+  c .outcome-number .ensures ∙ ap saidNumber (same-said (c .before .before .before .distinct-counts .ensures)),
+  same-buffer (c .before .before .before .distinct-counts .ensures),
 )
 
 pub colourway-distinct-counts-spec : {M : Type 1} → statement M

@@ -7,7 +7,8 @@ use native.Mathlib.Numerals.{add-one}
 use lib.ListN.{length}
 use borrow.Author.Needs.{needs}
 use denote.Ref.{now}
-use Rattle.theory.specs.Store.{stored, stored-none, length-stored, stored-more}
+use Rattle.theory.specs.Store.{stored}
+use Rattle.theory.specs.Store.Laws.{stored-none, length-stored, stored-more}
 use Rattle.flags.proofs.flags.clear.Statement.{statement}
 use Rattle.flags.proofs.flags.clear.Tie as tie
 
@@ -39,7 +40,11 @@ loop-less : tie.Need-loop-less Inv-loop μ-loop
 loop-less c = omega arith
 
 loop-again : tie.Need-loop-again Inv-loop μ-loop
-loop-again c = (omega arith, rw (add-one (c .before .loop .p)) (stored-more (λ p. 0) (λ p. p) _ _ _ _ (c .before .loop .inv .1) refl))
+loop-again c = (
+  omega arith,
+  rw (add-one (c .before .loop .p))
+      (stored-more (λ p. 0) (λ p. p) _ _ _ _ (c .before .loop .inv .1) refl),
+)
 
 same-length : tie.Need-same-length Inv-loop μ-loop
 same-length c = length-links (c .before)

@@ -1,4 +1,5 @@
--- `flags::flag_windows` meets its contract. The invariant: the strips passed are written, and of the links buffer no more than a strip is used.
+-- `flags::flag_windows` meets its contract. The invariant: the strips passed are written, and of the links buffer no
+-- more than a strip is used.
 -- Assumes nothing.
 use mathlib.Core.Path.{_≡_, sym, ap, _∙_}
 use native.Mathlib.Omega.{arith}
@@ -6,24 +7,30 @@ use Prim.Native.Nat.{_+_, _-_, _*_, _≤_}
 use native.Mathlib.Numerals.{add-one}
 use lib.ListN.{length}
 use denote.Ref.{now}
-use Rattle.theory.specs.Store.{storedRows, rows-none, length-rows, rows-more}
+use Rattle.theory.specs.Store.{storedRows}
+use Rattle.theory.specs.Store.Laws.{rows-none, length-rows, rows-more}
 use Rattle.shapes.specs.Shapes.{across, down}
 use Rattle.flags.specs.Flags.Strips.{flagOf, ready-still}
-use Rattle.flags.specs.Flags.Links.{Kept, kept-same, kept-then}
+use Rattle.flags.specs.Flags.Links.{RestKept, kept-same, kept-then}
 use Rattle.flags.proofs.flags.flag_windows.Statement.{statement}
 use Rattle.flags.proofs.flags.flag_windows.Tie as tie
 
 abbrev Inv-loop : tie.InvT-loop
-Inv-loop text pattern own symbols s counts links₀ flags₀ wide left₀ links flags left =
-    (left ≤ wide) × (flags ≡ storedRows (flagOf text pattern s) (λ left top. top * across s + left) left (down s) flags₀) × Kept (s .rows * s .width) links₀ links
+Inv-loop text pattern first selves symbols s counts links₀ flags₀ wide left₀ links flags left =
+    (left ≤ wide) × (flags ≡ storedRows (flagOf text pattern s) (λ left top. top * across s + left) left (down s)
+    flags₀) × RestKept (s .rows * s .width) links₀ links
 
 abbrev μ-loop : tie.MeasureT-loop
-μ-loop text pattern own symbols s counts links₀ flags₀ wide left₀ links flags left = wide - left
+μ-loop text pattern first selves symbols s counts links₀ flags₀ wide left₀ links flags left = wide - left
 
-length-flags : (c : tie.At-loop Inv-loop μ-loop) → length (c .loop .flags) ≡ length (now (c .before .before .before .before .before .before .before .before .before .args .flags))
+length-flags : (c : tie.At-loop Inv-loop μ-loop)
+    → length (c .loop .flags) ≡ length (now
+    (c .before .before .before .before .before .before .before .before .args .flags))
 length-flags c = ap length (c .loop .inv .1) ∙ length-rows _ _ _ (c .loop .left) _
 
-all : (c : tie.After-loop Inv-loop μ-loop) → c .before .loop .left ≡ across (c .before .before .before .before .before .before .before .before .before .before .args .s)
+all : (c : tie.After-loop Inv-loop μ-loop)
+    → c .before .loop .left ≡ across (c .before .before .before .before .before .before .before .before .before .args
+    .s)
 all c = omega arith
 
 add-across : tie.Need-add-across Inv-loop μ-loop
@@ -38,7 +45,7 @@ loop-holds c = (omega arith, sym (rows-none _ _ _ _), kept-same _ _)
 flag-column-requires : tie.Need-flag-column-requires Inv-loop μ-loop
 flag-column-requires c κs =
     let l = c .before .before .before in
-    let o = c .before .before .before .before .before .before .before .before .before .before .before .before in
+    let o = c .before .before .before .before .before .before .before .before .before .before .before in
     (ready-still (o .pre .0) (l .loop .inv .2 .long) (length-flags l), c .before .before .loop-test .taken, o .pre .1)
 
 add-left : tie.Need-add-left Inv-loop μ-loop
@@ -49,11 +56,13 @@ loop-less c = omega arith
 
 loop-again : tie.Need-loop-again Inv-loop μ-loop
 loop-again c =
-    let a = c .before .before .before .before .before .before .before .before .before .before .before .before .before .before .before .before .before .args in
+    let a = c .before .before .before .before .before .before .before .before .before .before .before .before .before
+    .before .before .before .args in
     let i = c .before .before .before .before .before .before .before .before .loop in
     let e = c .before .before .before .before .flag-column .ensures in (
       omega arith,
-      rw (add-one (i .left)) (rows-more (flagOf (now (a .text)) (now (a .pattern)) (a .s)) (λ left top. top * across (a .s) + left) _ _ _ _ _ (i .inv .1) (e .0)),
+      rw (add-one (i .left)) (rows-more (flagOf (now (a .text)) (now (a .pattern)) (a .s))
+          (λ left top. top * across (a .s) + left) _ _ _ _ _ (i .inv .1) (e .0)),
       kept-then _ _ _ _ (i .inv .2) (e .1),
     )
 

@@ -1,80 +1,100 @@
--- `flags::wanted` meets its contract. The invariant: no window passed has as many symbols as the pattern.
+-- `flags::wanted` meets its contract. The invariant: no window passed matches, and the table has places above the next.
 -- Assumes nothing.
-use mathlib.Core.Path.{_≡_}
+use mathlib.Core.Path.{refl}
 use native.Mathlib.Omega.{arith}
-use Prim.Native.Nat.{ℕ, _+_, _-_, _*_, _≤_, _<_}
-use lib.ListN.{getD}
-use borrow.Author.Count.{below-more}
-use Rattle.theory.specs.Test.{holds, fails}
+use Prim.Native.Nat.{_+_, _-_, _*_, _<_}
+use borrow.Author.Needs.{needs}
+use Rattle.theory.specs.Test.Laws.{true-false}
 use Rattle.shapes.specs.Shapes.{across, down}
-use Rattle.grid.specs.Counts.{place-lt, windows-small}
+use Rattle.grid.specs.Counts.Laws.{place-lt, windows-small}
+use Rattle.flags.specs.Flags.Rows.{RowsTo, rows-none, row-asked, rows-more, rows-all}
 use Rattle.flags.proofs.flags.wanted.Statement.{statement}
 use Rattle.flags.proofs.flags.wanted.Tie as tie
 
 abbrev Inv-loop : tie.InvT-loop
-Inv-loop symbols left counts wide tall top₀ top =
-    (top ≤ tall) × ((k : ℕ) → k < top → getD counts (k * wide + left) 0 ≡ symbols → ⊥)
+Inv-loop text pattern first symbols s left counts wide tall last₀ top₀ last top =
+    RowsTo text pattern s left symbols counts top last
 
 abbrev μ-loop : tie.MeasureT-loop
-μ-loop symbols left counts wide tall top₀ top = tall - top
+μ-loop text pattern first symbols s left counts wide tall last₀ top₀ last top = tall - top
+
+abbrev entry : tie.In-loop Inv-loop μ-loop → tie.Start Inv-loop μ-loop
+entry c = c .before .before .before .before .before .before .before .before .before .before
 
 -- the place of the window whose count is read
-place-in : (c : tie.In-loop Inv-loop μ-loop) → let a = c .before .before .before .before .before .before .args in
+place-in : (c : tie.In-loop Inv-loop μ-loop) → let a = entry c .args in
     c .before .loop .top * across (a .s) + a .left < down (a .s) * across (a .s)
 place-in c =
-    let o = c .before .before .before .before .before .before in
-    place-lt (across (o .args .s)) (down (o .args .s)) (c .before .loop .top) (o .args .left) (o .pre .1) (c .loop-test .taken)
+    let o = entry c in
+    place-lt (across (o .args .s)) (down (o .args .s)) (c .before .loop .top) (o .args .left) (o .pre .0 .beside)
+    (c .loop-test .taken)
 
-place-small : (c : tie.In-loop Inv-loop μ-loop) → let a = c .before .before .before .before .before .before .args in
+place-small : (c : tie.In-loop Inv-loop μ-loop) → let a = entry c .args in
     c .before .loop .top * across (a .s) + a .left < 255 * 255
-place-small c =
-    let o = c .before .before .before .before .before .before in
-    omega (arith, place-in c, windows-small (o .args .s) _ (o .pre .0))
+place-small c = let o = entry c in omega (arith, place-in c, windows-small (o .args .s) _ (o .pre .0 .shape))
 
 add-across : tie.Need-add-across Inv-loop μ-loop
-add-across c = omega arith
+add-across c = omega (arith, c .before .before .before .before .pre .0 .shape)
 
 sub-across : tie.Need-sub-across Inv-loop μ-loop
-sub-across c = omega arith
+sub-across c = omega (arith, c .before .before .before .before .before .pre .0 .shape)
 
 add-down : tie.Need-add-down Inv-loop μ-loop
-add-down c = omega arith
+add-down c = omega (arith, c .before .before .before .before .before .before .pre .0 .shape)
 
 sub-down : tie.Need-sub-down Inv-loop μ-loop
-sub-down c = omega arith
+sub-down c = omega (arith, c .before .before .before .before .before .before .before .pre .0 .shape)
+
+no-positions-requires : tie.Need-no-positions-requires Inv-loop μ-loop
+no-positions-requires c κs = search needs
 
 loop-holds : tie.Need-loop-holds Inv-loop μ-loop
-loop-holds c = (omega arith, λ k h. absurd (none k h))
-  where
-    none : (k : ℕ) → k < 0 → ⊥
-    none k h = omega arith
+loop-holds c =
+    rows-none _ _ _ _ _ _ _ (c .before .before .before .before .before .before .before .before .pre .0) _
+    (c .no-positions .ensures)
 
-mul-if1 : tie.Need-mul-if1 Inv-loop μ-loop
-mul-if1 c = omega (arith, place-small c)
+mul-count : tie.Need-mul-count Inv-loop μ-loop
+mul-count c = omega (arith, place-small c)
 
-add-if1 : tie.Need-add-if1 Inv-loop μ-loop
-add-if1 c = omega (arith, place-small c)
+add-count : tie.Need-add-count Inv-loop μ-loop
+add-count c = omega (arith, place-small c)
 
-mul-if1-2 : tie.Need-mul-if1-2 Inv-loop μ-loop
-mul-if1-2 c = omega (arith, place-small c)
+mul-count-2 : tie.Need-mul-count-2 Inv-loop μ-loop
+mul-count-2 c = omega (arith, place-small c)
 
-shared-slice-read-if1 : tie.Need-shared-slice-read-if1 Inv-loop μ-loop
-shared-slice-read-if1 c = omega (arith, place-in (c .before), c .before .before .before .before .before .before .before .pre .2)
+shared-slice-read-count : tie.Need-shared-slice-read-count Inv-loop μ-loop
+shared-slice-read-count c = omega (arith, place-in (c .before), entry (c .before) .pre .1)
+
+may-match-requires : tie.Need-may-match-requires Inv-loop μ-loop
+may-match-requires c κs =
+    let i = c .before .before in
+    row-asked _ _ _ _ _ _ _ (entry i .pre .0) _ _ (i .loop-test .taken) (i .before .loop .inv)
 
 returns : tie.Need-returns Inv-loop μ-loop
-returns c = holds (record { top = c .before .before .before .loop .top; inside = c .before .before .loop-test .taken; equal = c .if1 .taken })
+returns c = λ e. absurd (true-false refl e)
 
 add-top : tie.Need-add-top Inv-loop μ-loop
-add-top c = omega arith
+add-top c =
+    omega (
+      arith,
+      c .before .before .before .before .loop-test .taken,
+      entry (c .before .before .before .before) .pre .0
+          .shape,
+    )
 
 loop-less : tie.Need-loop-less Inv-loop μ-loop
-loop-less c = omega arith
+loop-less c = omega (arith, c .before .before .before .before .loop-test .taken)
 
 loop-again : tie.Need-loop-again Inv-loop μ-loop
-loop-again c = (omega arith, below-more _ _ (c .before .before .before .loop .inv .1) (c .if1 .left))
+loop-again c =
+    let i = c .before .before .before .before in
+    rows-more _ _ _ _ _ _ _ (entry i .pre .0) _ _ (i .loop-test .taken) (i .before .loop .inv) _ refl _ _
+    (c .before .may-match .ensures) (c .if1 .left)
 
 returns-2 : tie.Need-returns-2 Inv-loop μ-loop
-returns-2 c = fails (λ w. c .before .loop .inv .1 (w .top) (omega (arith, w .inside)) (w .equal))
+returns-2 c =
+    λ _. rows-all _ _ _ _ _ _ _ (c .before .before .before .before .before .before .before .before .before .before .pre
+    .0) _ _ (omega (arith, c .loop-test .left)) (c .before .loop .inv)
 
 pub wanted-spec : {M : Type 1} → statement M
 wanted-spec =
@@ -86,11 +106,13 @@ wanted-spec =
     sub-across
     add-down
     sub-down
+    no-positions-requires
     loop-holds
-    mul-if1
-    add-if1
-    mul-if1-2
-    shared-slice-read-if1
+    mul-count
+    add-count
+    mul-count-2
+    shared-slice-read-count
+    may-match-requires
     returns
     add-top
     loop-less

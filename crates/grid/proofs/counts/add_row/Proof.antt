@@ -5,7 +5,7 @@ use native.Mathlib.Omega.{arith}
 use lib.ListN.{length, take}
 use mathlib.Core.List.{append-nil}
 use Rattle.grid.specs.Occurrences.{Adds, occurrencesOf}
-use Rattle.grid.specs.Occurrences.{adds-room, adds-more, adds-all}
+use Rattle.grid.specs.Occurrences.Laws.{adds-room, adds-more, adds-all}
 use Rattle.grid.proofs.counts.add_row.Statement.{statement}
 use Rattle.grid.proofs.counts.add_row.Tie as tie
 

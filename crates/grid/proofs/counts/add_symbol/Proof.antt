@@ -5,7 +5,7 @@ use native.Mathlib.Omega.{arith}
 use borrow.Author.Tests.{eq-eqb, ne-eqb}
 use denote.Ref.{now}
 use Rattle.grid.specs.Occurrences.{occurrencesOf}
-use Rattle.grid.specs.Occurrences.{count-le, size-le, tracks-add}
+use Rattle.grid.specs.Occurrences.Laws.{occurrences-le, size-le, tracks-add}
 use borrow.Author.Needs.{needs}
 use Rattle.grid.proofs.counts.add_symbol.Statement.{statement}
 use Rattle.grid.proofs.counts.add_symbol.Tie as tie
@@ -17,7 +17,7 @@ element-copy-out-old : tie.Need-element-copy-out-old
 element-copy-out-old c = search needs
 
 add-occurrences : tie.Need-add-occurrences
-add-occurrences c = let a = c .before in omega (arith, count-le (occurrencesOf (now (a .args .occurrences)) (a .args .size)) (a .args .v) (a .pre .0) (omega arith) (a .pre .1))
+add-occurrences c = let a = c .before in omega (arith, occurrences-le (occurrencesOf (now (a .args .occurrences)) (a .args .size)) (a .args .v) (a .pre .0) (omega arith) (a .pre .1))
 
 mul-occurrences : tie.Need-mul-occurrences
 mul-occurrences c = search needs

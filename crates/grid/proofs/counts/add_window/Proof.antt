@@ -5,12 +5,13 @@ use Prim.Native.Nat.{_-_, _≤_}
 use native.Mathlib.Omega.{arith}
 use denote.Ref.{now}
 use Rattle.grid.specs.Occurrences.{Tracks, occurrencesOf}
-use Rattle.grid.specs.Counts.{cellsOf, room-row, add-bottom, tracks-start}
+use Rattle.grid.specs.Counts.{stripCells}
+use Rattle.grid.specs.Counts.Laws.{room-row, add-bottom, tracks-start}
 use Rattle.grid.proofs.counts.add_window.Statement.{statement}
 use Rattle.grid.proofs.counts.add_window.Tie as tie
 
 abbrev Inv-loop : tie.InvT-loop
-Inv-loop occurrences₀ text s left height size₀ n₀ occurrences size n = (n ≤ height) × Tracks (occurrencesOf occurrences size) (cellsOf text s 0 left n)
+Inv-loop occurrences₀ text s left height size₀ n₀ occurrences size n = (n ≤ height) × Tracks (occurrencesOf occurrences size) (stripCells text s 0 left n)
 
 abbrev μ-loop : tie.MeasureT-loop
 μ-loop occurrences₀ text s left height size₀ n₀ occurrences size n = height - n

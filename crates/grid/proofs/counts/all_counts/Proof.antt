@@ -6,7 +6,8 @@ use Prim.Native.Nat.{_+_, _-_, _*_, _≤_}
 use native.Mathlib.Numerals.{add-one}
 use lib.ListN.{length}
 use denote.Ref.{now}
-use Rattle.theory.specs.Store.{storedRows, rows-none, length-rows, rows-more}
+use Rattle.theory.specs.Store.{storedRows}
+use Rattle.theory.specs.Store.Laws.{rows-none, length-rows, rows-more}
 use Rattle.shapes.specs.Shapes.{across, down}
 use Rattle.grid.specs.Counts.{countOf}
 use Rattle.grid.proofs.counts.all_counts.Statement.{statement}

@@ -4,8 +4,8 @@ use mathlib.Core.Path.{_≡_, refl}
 use native.Mathlib.Omega.{arith}
 use Prim.Native.Nat.{ℕ, _-_, _≤_, _<_}
 use lib.ListN.{length, getD, length-set}
-use Rattle.theory.specs.Store.{set-right}
-use Rattle.grid.specs.Occurrences.{tracks-none}
+use Rattle.theory.specs.Store.Laws.{set-right}
+use Rattle.grid.specs.Occurrences.Laws.{tracks-none}
 use Rattle.grid.proofs.counts.clear.Statement.{statement}
 use Rattle.grid.proofs.counts.clear.Tie as tie
 

@@ -5,10 +5,11 @@ use native.Mathlib.Omega.{arith}
 use Prim.Native.Nat.{_*_, _≤_}
 use denote.Ref.{now}
 use lib.ListN.{length}
-use Rattle.shapes.specs.Said.{passed-said}
-use Rattle.shapes.specs.Questions.{text-shaped}
-use Rattle.shapes.specs.Shapes.{ShapeOf, across, down, product-le}
-use Rattle.grid.specs.Counts.{counts-stopped, counts-room-refused, counts-accepted}
+use Rattle.shapes.specs.Said.Laws.{passed-said}
+use Rattle.shapes.specs.Questions.Laws.{text-shaped}
+use Rattle.shapes.specs.Shapes.{ShapeOf, across, down}
+use Rattle.shapes.specs.Shapes.Laws.{product-le}
+use Rattle.grid.specs.Counts.Laws.{counts-stopped, counts-room-refused, counts-accepted}
 use borrow.Author.Needs.{needs}
 use Rattle.grid.proofs.counts.counts_outcome.Statement.{statement}
 use Rattle.grid.proofs.counts.counts_outcome.Tie as tie

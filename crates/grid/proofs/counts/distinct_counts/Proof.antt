@@ -1,12 +1,15 @@
--- `counts::distinct_counts` meets its contract: refused, nothing is written; accepted, all rows stored are the whole table, each place once.
+-- `counts::distinct_counts` meets its contract: refused, nothing is written; accepted, all rows stored are the whole
+-- table, each place once.
 -- Assumes nothing.
-use mathlib.Core.Path.{_≡_, sym}
+use mathlib.Core.Path.{_≡_}
 use mathlib.Core.List.{[]}
 use denote.Ref.{now}
 use lib.ListN.{length}
-use Rattle.shapes.specs.Said.{accepts, passed-said}
+use Rattle.shapes.specs.Said.{accepts}
+use Rattle.shapes.specs.Said.Laws.{passed-said}
 use Rattle.shapes.specs.Questions.{fourSides}
-use Rattle.grid.specs.Counts.{countsSaid, counts-kept, counts-passed, counts-written}
+use Rattle.grid.specs.Counts.{countsSaid}
+use Rattle.grid.specs.Counts.Laws.{counts-kept, counts-passed, counts-written}
 use borrow.Author.Needs.{needs}
 use Rattle.grid.proofs.counts.distinct_counts.Statement.{statement}
 use Rattle.grid.proofs.counts.distinct_counts.Tie as tie
@@ -26,10 +29,7 @@ enum-told-2 : tie.Need-enum-told-2
 enum-told-2 c = search needs
 
 returns : tie.Need-returns
-returns c = (
-  c .before .before .counts-outcome .ensures,
-  counts-kept _ _ _ _ _ (c .enum-told2 .given .1) (c .before .before .counts-outcome .ensures),
-)
+returns c = counts-kept _ _ _ _ _ (c .enum-told2 .given .1) (c .before .before .counts-outcome .ensures)
 
 all-counts-requires : tie.Need-all-counts-requires
 all-counts-requires c κs = counts-passed _ _ _ [] (good (c .before))
@@ -39,8 +39,9 @@ same-length c = search needs
 
 returns-2 : tie.Need-returns-2
 returns-2 c =
-    let o = c .before .before .before .before .before .before .before .before .before in
-    (sym (good (c .before .before .before .before)), counts-written (now (o .args .text)) (fourSides (o .args .rows) (o .args .columns) (o .args .height) (o .args .width)) _ _ (good (c .before .before .before .before)) (c .before .before .all-counts .ensures))
+    let a = c .before .before .before .before .before .before .before .before .before .args in
+    counts-written (now (a .text)) (fourSides (a .rows) (a .columns) (a .height) (a .width)) _ _
+    (good (c .before .before .before .before)) (c .before .before .all-counts .ensures)
 
 pub distinct-counts-spec : {M : Type 1} → statement M
 distinct-counts-spec =

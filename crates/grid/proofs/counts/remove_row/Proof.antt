@@ -3,8 +3,8 @@
 use Prim.Native.Nat.{_-_, _≤_}
 use native.Mathlib.Omega.{arith}
 use lib.ListN.{length}
-use Rattle.grid.specs.Occurrences.{occurrencesOf}
-use Rattle.grid.specs.Occurrences.{Dropped, dropped-start, dropped-more, dropped-all}
+use Rattle.grid.specs.Occurrences.{occurrencesOf, Dropped}
+use Rattle.grid.specs.Occurrences.Laws.{dropped-start, dropped-more, dropped-all}
 use Rattle.grid.proofs.counts.remove_row.Statement.{statement}
 use Rattle.grid.proofs.counts.remove_row.Tie as tie
 

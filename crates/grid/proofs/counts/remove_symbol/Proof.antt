@@ -5,7 +5,7 @@ use native.Mathlib.Omega.{arith}
 use borrow.Author.Tests.{eq-eqb, ne-eqb}
 use denote.Ref.{now}
 use Rattle.grid.specs.Occurrences.{occurrencesOf}
-use Rattle.grid.specs.Occurrences.{count-some, size-some, tracks-remove}
+use Rattle.grid.specs.Occurrences.Laws.{count-some, size-some, tracks-remove}
 use borrow.Author.Needs.{needs}
 use Rattle.grid.proofs.counts.remove_symbol.Statement.{statement}
 use Rattle.grid.proofs.counts.remove_symbol.Tie as tie

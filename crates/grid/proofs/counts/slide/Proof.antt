@@ -5,7 +5,8 @@ use Prim.Native.Nat.{_+_, _-_}
 use native.Mathlib.Omega.{arith}
 use denote.Ref.{now}
 use Rattle.grid.specs.Occurrences.{Tracks, occurrencesOf}
-use Rattle.grid.specs.Counts.{cellsOf, room-row, add-bottom, top-first}
+use Rattle.grid.specs.Counts.{stripCells}
+use Rattle.grid.specs.Counts.Laws.{room-row, add-bottom, top-first}
 use borrow.Author.Needs.{needs}
 use Rattle.grid.proofs.counts.slide.Statement.{statement}
 use Rattle.grid.proofs.counts.slide.Tie as tie
@@ -18,7 +19,7 @@ strip-row-requires c κs = search needs
 
 -- the window's occurrences, its top row first
 top-occurrences : (c : tie.After-strip-row) → let a = c .before .before .before .before .before .before .args in
-    Tracks (occurrencesOf (now (a .occurrences)) (a .size)) (now (c .strip-row .result) ++ cellsOf (now (a .text)) (a .s) (a .top + 1) (a .left) (a .s .height - 1))
+    Tracks (occurrencesOf (now (a .occurrences)) (a .size)) (now (c .strip-row .result) ++ stripCells (now (a .text)) (a .s) (a .top + 1) (a .left) (a .s .height - 1))
 top-occurrences c =
     let o = c .before .before .before .before .before .before in
     let a = o .args in
@@ -26,7 +27,7 @@ top-occurrences c =
 
 -- and without that row
 less : (c : tie.After-remove-row) → let a = c .before .before .before .before .before .before .before .args in
-    Tracks (occurrencesOf (c .remove-row .last .0) (c .remove-row .result)) (cellsOf (now (a .text)) (a .s) (a .top + 1) (a .left) (a .s .height - 1))
+    Tracks (occurrencesOf (c .remove-row .last .0) (c .remove-row .result)) (stripCells (now (a .text)) (a .s) (a .top + 1) (a .left) (a .s .height - 1))
 less c = c .remove-row .ensures _ (top-occurrences (c .before))
 
 remove-row-requires : tie.Need-remove-row-requires
@@ -42,7 +43,7 @@ add-row-requires c κs = let o = c .before .before .before .before .before .befo
 
 -- the next window's occurrences
 next : (c : tie.After-add-row) → let a = c .before .before .before .before .before .before .before .before .before .before .args in
-    Tracks (occurrencesOf (c .add-row .last .0) (c .add-row .result)) (cellsOf (now (a .text)) (a .s) (a .top + 1) (a .left) (a .s .height))
+    Tracks (occurrencesOf (c .add-row .last .0) (c .add-row .result)) (stripCells (now (a .text)) (a .s) (a .top + 1) (a .left) (a .s .height))
 next c =
     let o = c .before .before .before .before .before .before .before .before .before .before in
     let a = o .args in

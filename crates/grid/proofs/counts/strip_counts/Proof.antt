@@ -1,4 +1,5 @@
--- `counts::strip_counts` meets its contract. The invariant: the windows passed are written, and the occurrences are those of the next window.
+-- `counts::strip_counts` meets its contract. The invariant: the windows passed are written, and the occurrences are
+-- those of the next window.
 -- Assumes nothing.
 use mathlib.Core.Path.{_≡_, sym, ap, _∙_}
 use native.Mathlib.Omega.{arith}
@@ -6,16 +7,18 @@ use Prim.Native.Nat.{_+_, _-_, _*_, _≤_, _<_}
 use native.Mathlib.Numerals.{add-one}
 use lib.ListN.{length}
 use denote.Ref.{now}
-use Rattle.theory.specs.Store.{stored, stored-none, length-stored, stored-more}
+use Rattle.theory.specs.Store.{stored}
+use Rattle.theory.specs.Store.Laws.{stored-none, length-stored, stored-more}
 use Rattle.grid.specs.Occurrences.{Tracks, occurrencesOf}
 use Rattle.shapes.specs.Shapes.{across, down}
-use Rattle.grid.specs.Counts.{cellsOf, countOf, place-lt, windows-small, size-small, count-at}
+use Rattle.grid.specs.Counts.{stripCells, countOf}
+use Rattle.grid.specs.Counts.Laws.{place-lt, windows-small, size-small, count-at}
 use Rattle.grid.proofs.counts.strip_counts.Statement.{statement}
 use Rattle.grid.proofs.counts.strip_counts.Tie as tie
 
 abbrev Inv-loop : tie.InvT-loop
 Inv-loop occurrences₀ text s left counts₀ width height size₀ top₀ occurrences counts size top =
-    (top ≤ height) × (top < height → Tracks (occurrencesOf occurrences size) (cellsOf text s top left (s .height))) ×
+    (top ≤ height) × (top < height → Tracks (occurrencesOf occurrences size) (stripCells text s top left (s .height))) ×
     (counts ≡ stored (countOf text s) (λ top. top * across s + left) top counts₀) × (length occurrences ≡ 256)
 
 abbrev μ-loop : tie.MeasureT-loop

@@ -2,7 +2,7 @@
 -- Assumes nothing.
 use mathlib.Core.Path.{sym}
 use borrow.Author.Tests.{eq-eqb, ne-eqb}
-use Rattle.theory.specs.Test.{pick-true, pick-false}
+use Rattle.theory.specs.Test.Laws.{pick-true, pick-false}
 use borrow.Author.Needs.{needs}
 use Rattle.grid.proofs.strips.distance.Statement.{statement}
 use Rattle.grid.proofs.strips.distance.Tie as tie

@@ -1,11 +1,12 @@
--- `strips::link_row` meets its contract. The invariant: the positions passed are linked, for every sequence that the row is a part of.
+-- `strips::link_row` meets its contract. The invariant: the positions passed are linked, for every sequence that the
+-- row is a part of.
 -- Assumes nothing.
 use mathlib.Core.Path.{_≡_, refl}
 use native.Mathlib.Omega.{arith}
 use Prim.Native.Nat.{ℕ, _+_, _-_, _≤_, _<_}
 use lib.ListN.{length, getD, length-set}
 use denote.Ref.{now}
-use Rattle.grid.specs.Strips.{RowAt, LastPlaces, LinkedRow}
+use Rattle.grid.specs.Strips.{RowFrom, LastPlaces, LinkedRow}
 use Rattle.grid.specs.Strips.Rows.{latest-le, linked-row-none, linked-row-more}
 use Rattle.grid.proofs.strips.link_row.Statement.{statement}
 use Rattle.grid.proofs.strips.link_row.Tie as tie
@@ -13,7 +14,7 @@ use Rattle.grid.proofs.strips.link_row.Tie as tie
 abbrev Inv-loop : tie.InvT-loop
 Inv-loop row base last₀ links₀ j₀ last links j =
     (j ≤ length row) × (length links ≡ length links₀) × (length last ≡ 256) ×
-    ((s : ℕ → ℕ) → RowAt s base row → LastPlaces s base last₀ → LinkedRow s base j links₀ last links)
+    ((s : ℕ → ℕ) → RowFrom s base row → LastPlaces s base last₀ → LinkedRow s base j links₀ last links)
 
 abbrev μ-loop : tie.MeasureT-loop
 μ-loop row base last₀ links₀ j₀ last links j = length row - j

@@ -1,4 +1,5 @@
--- `strips::link_rows` meets its contract. The invariant: the rows passed are linked, and the last places are those before the next.
+-- `strips::link_rows` meets its contract. The invariant: the rows passed are linked, and the last places are those
+-- before the next.
 -- Assumes nothing.
 use mathlib.Core.Path.{_≡_, sym, ap, _∙_}
 use native.Mathlib.Omega.{arith}
@@ -6,10 +7,12 @@ use Prim.Native.Nat.{_+_, _-_, _*_, _≤_}
 use native.Mathlib.Nat.{zero-mul}
 use lib.ListN.{length}
 use denote.Ref.{now}
-use Rattle.theory.specs.Store.{storedRows, rows-none, length-rows}
-use Rattle.shapes.specs.Shapes.{product-le}
+use Rattle.theory.specs.Older.Laws.{zeros-at, zeros-long}
+use Rattle.theory.specs.Store.{storedRows}
+use Rattle.theory.specs.Store.Laws.{rows-none, length-rows}
+use Rattle.shapes.specs.Shapes.Laws.{product-le}
 use Rattle.grid.specs.Strips.{link, stripSymbols, LastPlaces, LinkedRow}
-use Rattle.grid.specs.Strips.Rows.{strip-row-at, linkable-row, next-places, next-links}
+use Rattle.grid.specs.Strips.Rows.{strip-row-at, linkable-row, next-places, next-links, last-places-none}
 use Rattle.grid.proofs.strips.link_rows.Statement.{statement}
 use Rattle.grid.proofs.strips.link_rows.Tie as tie
 
@@ -40,7 +43,7 @@ no-places-requires : tie.Need-no-places-requires Inv-loop μ-loop
 no-places-requires c κs = tt
 
 loop-holds : tie.Need-loop-holds Inv-loop μ-loop
-loop-holds c = (omega arith, rw zero-mul (c .no-places .ensures _), sym (rows-none _ _ _ _))
+loop-holds c = (omega arith, rw zero-mul (last-places-none _ _ (zeros-long _ (c .no-places .ensures)) (λ v h. rw (c .no-places .ensures) (zeros-at 256 v))), sym (rows-none _ _ _ _))
 
 cast-row-cells : tie.Need-cast-row-cells Inv-loop μ-loop
 cast-row-cells c = omega arith

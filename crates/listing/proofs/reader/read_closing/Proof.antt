@@ -1,5 +1,6 @@
--- `reader::read_closing` meets its contract: kind 5 has 5 bytes (`size-closing`). Where fewer are left, the record is cut (`reads-cut`); else the
--- bytes behind the kind are those of the two numbers (`two-numbers`), since each of them is below 256.
+-- `reader::read_closing` meets its contract: kind 5 has 5 bytes (`size-closing`). Where fewer are left, the record is
+-- cut (`reads-cut`); else the bytes behind the kind are those of the two numbers (`two-numbers`), since each of them is
+-- below 256.
 -- Assumes nothing.
 use mathlib.Core.Path.{ap}
 use mathlib.Core.List.{List, _∷_}
@@ -7,7 +8,7 @@ use Prim.Native.Nat.{ℕ, _+_, _<_}
 use native.Mathlib.Omega.{arith}
 use denote.Ref.{now}
 use lib.ListN.{getD}
-use Rattle.listing.specs.Reading.{reads-cut, reads-whole, size-closing, two-numbers}
+use Rattle.listing.specs.Reader.Reading.{reads-cut, reads-whole, size-closing, two-numbers}
 use borrow.Author.Needs.{needs}
 use Rattle.listing.proofs.reader.read_closing.Statement.{statement}
 use Rattle.listing.proofs.reader.read_closing.Tie as tie

@@ -1,8 +1,8 @@
--- `reader::read_found` meets its contract: kind 1 has 3 bytes (`size-found`). Where fewer are left, the record is cut (`reads-cut`); else the bytes behind
--- the kind are the record's, one by one (`reads-whole`).
+-- `reader::read_found` meets its contract: kind 1 has 3 bytes (`size-found`). Where fewer are left, the record is cut
+-- (`reads-cut`); else the bytes behind the kind are the record's, one by one (`reads-whole`).
 -- Assumes nothing.
 use mathlib.Core.Path.{refl}
-use Rattle.listing.specs.Reading.{reads-cut, reads-whole, size-found}
+use Rattle.listing.specs.Reader.Reading.{reads-cut, reads-whole, size-found}
 use borrow.Author.Needs.{needs}
 use Rattle.listing.proofs.reader.read_found.Statement.{statement}
 use Rattle.listing.proofs.reader.read_found.Tie as tie

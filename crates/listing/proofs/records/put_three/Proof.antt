@@ -1,5 +1,5 @@
--- `records::put_three` meets its contract: a run of three stores is three bytes written (`stores-written`). A store leaves the buffer as long, so each
--- of them is inside as the first one is.
+-- `records::put_three` meets its contract: a run of three stores is three bytes written (`stores-written`). A store
+-- leaves the buffer as long, so each of them is inside as the first one is.
 -- Assumes nothing.
 use mathlib.Core.List.{[], _∷_}
 use native.Mathlib.Omega.{arith}

@@ -1,7 +1,7 @@
--- `records::write_record` meets its contract: in each case the record is known, so there is room for its bytes (`room-for`), and the bytes that
--- are put are the record's (`record-written`).
+-- `records::write_record` meets its contract: in each case the record is known, so there is room for its bytes
+-- (`room-for`), and the bytes that are put are the record's (`record-written`).
 -- Assumes nothing.
-use Rattle.listing.specs.Writing.{room-for, record-written}
+use Rattle.listing.specs.Records.Writing.{room-for, record-written}
 use borrow.Author.Needs.{needs}
 use Rattle.listing.proofs.records.write_record.Statement.{statement}
 use Rattle.listing.proofs.records.write_record.Tie as tie
@@ -27,8 +27,8 @@ add-result-2 c = search needs
 enum-known-item-3 : tie.Need-enum-known-item-3
 enum-known-item-3 c = search needs
 
-put-spoiled-requires : tie.Need-put-spoiled-requires
-put-spoiled-requires c κs = room-for _ _ (c .before .before .item3 .given .1) (c .before .before .before .before .before .pre)
+put-mismatch-requires : tie.Need-put-mismatch-requires
+put-mismatch-requires c κs = room-for _ _ (c .before .before .item3 .given .1) (c .before .before .before .before .before .pre)
 
 add-result-3 : tie.Need-add-result-3
 add-result-3 c = search needs
@@ -36,8 +36,8 @@ add-result-3 c = search needs
 enum-known-item-4 : tie.Need-enum-known-item-4
 enum-known-item-4 c = search needs
 
-put-spoiled-requires-2 : tie.Need-put-spoiled-requires-2
-put-spoiled-requires-2 c κs = room-for _ _ (c .before .before .item4 .given .1) (c .before .before .before .before .before .pre)
+put-mismatch-requires-2 : tie.Need-put-mismatch-requires-2
+put-mismatch-requires-2 c κs = room-for _ _ (c .before .before .item4 .given .1) (c .before .before .before .before .before .pre)
 
 add-result-4 : tie.Need-add-result-4
 add-result-4 c = search needs
@@ -79,13 +79,13 @@ same-length-3 : tie.Need-same-length-3
 same-length-3 c = search needs
 
 returns-3 : tie.Need-returns-3
-returns-3 c = record-written _ _ _ (c .before .before .before .before .before .item3 .given .1) (c .before .before .put-spoiled .ensures)
+returns-3 c = record-written _ _ _ (c .before .before .before .before .before .item3 .given .1) (c .before .before .put-mismatch .ensures)
 
 same-length-4 : tie.Need-same-length-4
 same-length-4 c = search needs
 
 returns-4 : tie.Need-returns-4
-returns-4 c = record-written _ _ _ (c .before .before .before .before .before .item4 .given .1) (c .before .before .put-spoiled2 .ensures)
+returns-4 c = record-written _ _ _ (c .before .before .before .before .before .item4 .given .1) (c .before .before .put-mismatch2 .ensures)
 
 same-length-5 : tie.Need-same-length-5
 same-length-5 c = search needs
@@ -104,10 +104,10 @@ write-record-spec =
     put-three-requires-2
     add-result-2
     enum-known-item-3
-    put-spoiled-requires
+    put-mismatch-requires
     add-result-3
     enum-known-item-4
-    put-spoiled-requires-2
+    put-mismatch-requires-2
     add-result-4
     enum-known-item-5
     cast-put-five

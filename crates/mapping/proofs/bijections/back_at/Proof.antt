@@ -1,10 +1,11 @@
--- `bijections::back_at` meets its contract: a symbol is looked up in the other column, and of the rest only 256 is right.
+-- `bijections::back_at` meets its contract: a symbol is looked up in the other column, and of the rest only 256 is
+-- right.
 -- Assumes nothing.
 use mathlib.Core.Path.{sym, _∙_, ap}
 use Prim.Native.Nat.{ℕ}
 use lib.Dec.{eqb}
 use borrow.Author.Tests.{lt-ltb, le-ltb}
-use Rattle.theory.specs.Test.{pick-true, pick-false}
+use Rattle.theory.specs.Test.Laws.{pick-true, pick-false}
 use borrow.Author.Needs.{needs}
 use Rattle.mapping.proofs.bijections.back_at.Statement.{statement}
 use Rattle.mapping.proofs.bijections.back_at.Tie as tie

@@ -1,11 +1,12 @@
--- `bijections::chain` meets its contract. The invariant: the entries passed hold the images of images; past the last one they are the table.
+-- `bijections::chain` meets its contract. The invariant: the entries passed hold the images of images; past the last
+-- one they are the table.
 -- Assumes nothing.
 use mathlib.Core.Path.{_≡_, refl}
 use Prim.Native.Nat.{ℕ, _≤_, _<_, _-_}
 use native.Mathlib.Omega.{arith}
 use lib.ListN.{length, getD, length-set}
-use Rattle.theory.specs.Store.{set-right}
-use Rattle.theory.specs.Table.{table-is}
+use Rattle.theory.specs.Store.Laws.{set-right}
+use Rattle.theory.specs.Table.Laws.{table-is}
 use Rattle.theory.specs.Columns.{through, chained}
 use Rattle.mapping.proofs.bijections.chain.Statement.{statement}
 use Rattle.mapping.proofs.bijections.chain.Tie as tie

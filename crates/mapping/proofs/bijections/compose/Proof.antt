@@ -1,11 +1,12 @@
--- `bijections::compose` meets its contract: refused where the columns of either disagree, and otherwise the columns are chained, the backward
--- columns in the other order.
+-- `bijections::compose` meets its contract: refused where the columns of either disagree, and otherwise the columns are
+-- chained, the backward columns in the other order.
 -- Assumes nothing.
 use mathlib.Core.Path.{_≡_, sym, _∙_}
 use mathlib.Core.Bool.{true}
 use borrow.Author.Tests.{not-true, not-false}
 use Rattle.mapping.specs.Bijections.{goodColumns, composite}
-use Rattle.mapping.specs.Bijections.Numbers.{compose-first-disagreeing, compose-second-disagreeing, compose-accepted}
+use Rattle.mapping.specs.Bijections.Numbers.{compose-first-disagreeing, compose-second-disagreeing}
+use Rattle.mapping.specs.Bijections.Numbers.{compose-accepted}
 use Rattle.mapping.specs.Bijections.Laws.{same-columns}
 use borrow.Author.Needs.{needs}
 use Rattle.mapping.proofs.bijections.compose.Statement.{statement}

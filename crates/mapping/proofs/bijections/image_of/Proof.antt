@@ -1,8 +1,9 @@
--- `bijections::image_of` meets its contract: a symbol has the image that stands in the column, and what is no symbol has none.
+-- `bijections::image_of` meets its contract: a symbol has the image that stands in the column, and what is no symbol
+-- has none.
 -- Assumes nothing.
 use mathlib.Core.Path.{sym}
 use borrow.Author.Tests.{lt-ltb, le-ltb}
-use Rattle.theory.specs.Test.{pick-true, pick-false}
+use Rattle.theory.specs.Test.Laws.{pick-true, pick-false}
 use borrow.Author.Needs.{needs}
 use Rattle.mapping.proofs.bijections.image_of.Statement.{statement}
 use Rattle.mapping.proofs.bijections.image_of.Tie as tie

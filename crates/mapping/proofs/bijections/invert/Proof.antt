@@ -1,4 +1,5 @@
--- `bijections::invert` meets its contract: refused where the columns disagree, and otherwise each stands in the other's place.
+-- `bijections::invert` meets its contract: refused where the columns disagree, and otherwise each stands in the other's
+-- place.
 -- Assumes nothing.
 use mathlib.Core.Path.{sym, _∙_}
 use borrow.Author.Tests.{not-true, not-false}

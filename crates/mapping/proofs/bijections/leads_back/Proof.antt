@@ -1,5 +1,5 @@
--- `bijections::leads_back` meets its contract. The invariant: from every entry before a the other column leads back. The first that it does not
--- lead back from answers no; past the last one it has led back from all.
+-- `bijections::leads_back` meets its contract. The invariant: from every entry before a the other column leads back.
+-- The first that it does not lead back from answers no; past the last one it has led back from all.
 -- Assumes nothing.
 use mathlib.Core.Path.{sym}
 use Prim.Native.Nat.{ℕ, _≤_, _<_, _-_}
@@ -8,7 +8,8 @@ use lib.ListN.{getD}
 use borrow.Author.Count.{below-more}
 use borrow.Author.Tests.{not-true, not-false}
 use denote.Ref.{now}
-use Rattle.theory.specs.Test.{Tested, is-true, is-false, says-true, says-false}
+use Rattle.theory.specs.Test.{Tested}
+use Rattle.theory.specs.Test.Laws.{is-true, is-false, says-true, says-false}
 use Rattle.theory.specs.Columns.{Back}
 use Rattle.theory.specs.Columns.Agreement.{back-tested, leads-back-tested}
 use Rattle.mapping.proofs.bijections.leads_back.Statement.{statement}

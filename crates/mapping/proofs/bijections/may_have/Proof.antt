@@ -2,7 +2,7 @@
 -- Assumes nothing.
 use mathlib.Core.Path.{sym}
 use borrow.Author.Tests.{eq-eqb, ne-eqb}
-use Rattle.theory.specs.Test.{pick-true, pick-false}
+use Rattle.theory.specs.Test.Laws.{pick-true, pick-false}
 use Rattle.mapping.proofs.bijections.may_have.Statement.{statement}
 use Rattle.mapping.proofs.bijections.may_have.Tie as tie
 

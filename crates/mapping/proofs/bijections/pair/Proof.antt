@@ -1,12 +1,13 @@
--- `bijections::pair` meets its contract: each guard is the test of its refusal's number, in the order 14, 12, 13; past all three one entry of
--- each column is written.
+-- `bijections::pair` meets its contract: each guard is the test of its refusal's number, in the order 14, 12, 13; past
+-- all three one entry of each column is written.
 -- Assumes nothing.
 use mathlib.Core.Path.{_≡_, sym, _∙_}
 use mathlib.Core.Bool.{true}
 use borrow.Author.Tests.{not-true, not-false}
 use Rattle.theory.specs.Columns.{free}
 use Rattle.mapping.specs.Bijections.{goodColumns, paired}
-use Rattle.mapping.specs.Bijections.Numbers.{pair-disagreeing, pair-other-image, pair-other-preimage, pair-accepted}
+use Rattle.mapping.specs.Bijections.Numbers.{pair-disagreeing, pair-other-image, pair-other-preimage}
+use Rattle.mapping.specs.Bijections.Numbers.{pair-accepted}
 use borrow.Author.Needs.{needs}
 use Rattle.mapping.proofs.bijections.pair.Statement.{statement}
 use Rattle.mapping.proofs.bijections.pair.Tie as tie

@@ -2,8 +2,11 @@
 -- Assumes nothing.
 use mathlib.Core.Path.{_≡_}
 use mathlib.Core.List.{[]}
+use native.Mathlib.Omega.{arith}
 use denote.Ref.{now}
-use Rattle.shapes.specs.Said.{accepts, passed-said}
+use Rattle.theory.specs.Bytes.{Bytes}
+use Rattle.shapes.specs.Said.{accepts}
+use Rattle.shapes.specs.Said.Laws.{passed-said}
 use Rattle.shapes.specs.Questions.{Question, ask}
 use Rattle.matching.specs.Compare.{placeSaid}
 use Rattle.matching.specs.Compare.Accepted.{place-passed, window-placed}
@@ -20,8 +23,16 @@ asking o = let a = o .args in ask (now (a .text)) (a .rows) (a .columns) (now (a
 abbrev entry : tie.After-window-outcome → tie.Start
 entry c = c .before .before .before
 
+-- text and pattern are bytes, as their types say
+bytes : (c : tie.After-window-outcome) → Bytes (now (entry c .args .text)) × Bytes (now (entry c .args .pattern))
+bytes c = (
+  (λ i. omega (arith, c .before .before .shared-slice-known .given i)),
+  (λ i. omega (arith, c .before .shared-slice-known2 .given i)),
+)
+
 -- nothing is refused
-good : (c : tie.After-enum-told) → let o = entry (c .before .before) in placeSaid (asking o) (o .args .row) (o .args .column) ≡ accepts []
+good : (c : tie.After-enum-told) → let o = entry (c .before .before) in
+    placeSaid (asking o) (o .args .row) (o .args .column) ≡ accepts []
 good c = passed-said _ _ (c .enum-told .given .1) (c .before .before .window-outcome .ensures)
 
 window-outcome-requires : tie.Need-window-outcome-requires
@@ -39,17 +50,24 @@ enum-told c = search needs
 compare-requires : tie.Need-compare-requires
 compare-requires c κs =
     let o = entry (c .before .before) in
-    window-placed (asking o) (o .args .row) (o .args .column) (place-passed (asking o) (o .args .row) (o .args .column) [] (good c))
+    window-placed (asking o) (o .args .row) (o .args .column)
+    (place-passed (asking o) (o .args .row) (o .args .column) [] (good c))
 
 returns : tie.Need-returns
 returns c =
-    let o = entry (c .before .before .before .before) in
-    told-refused (asking o) (o .args .row) (o .args .column) _ _ _ (c .before .before .outcome .given .1) (c .before .before .before .before .window-outcome .ensures) (c .empty .ensures)
+    let o = entry (c .before .before .before .before) in (
+      told-refused (asking o) (o .args .row) (o .args .column) _ _ _ (c .before .before .outcome .given .1)
+          (c .before .before .before .before .window-outcome .ensures) (c .empty .ensures),
+      bytes (c .before .before .before .before),
+    )
 
 returns-2 : tie.Need-returns-2
 returns-2 c =
-    let o = entry (c .before .before .before) in
-    told-answered (asking o) (o .args .row) (o .args .column) _ (good (c .before)) (c .compare .ensures .0) (c .compare .ensures .1)
+    let o = entry (c .before .before .before) in (
+      told-answered (asking o) (o .args .row) (o .args .column) _ (good (c .before)) (c .compare .ensures .0)
+          (c .compare .ensures .1),
+      bytes (c .before .before .before),
+    )
 
 pub one-window-spec : {M : Type 1} → statement M
 one-window-spec =

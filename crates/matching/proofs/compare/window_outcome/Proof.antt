@@ -2,7 +2,7 @@
 -- Assumes nothing.
 use mathlib.Core.Path.{sym, _∙_}
 use borrow.Author.Tests.{not-true, not-false}
-use Rattle.shapes.specs.Said.{passed-said}
+use Rattle.shapes.specs.Said.Laws.{passed-said}
 use Rattle.matching.specs.Compare.Accepted.{place-stopped, place-refused, place-accepted}
 use borrow.Author.Needs.{needs}
 use Rattle.matching.proofs.compare.window_outcome.Statement.{statement}
@@ -26,13 +26,15 @@ corner-inside-requires c κs = search needs
 returns-2 : tie.Need-returns-2
 returns-2 c =
     place-refused _ _ _
-    (passed-said _ _ (c .before .before .enum-told .given .1) (c .before .before .before .before .question-outcome .ensures))
+    (passed-said _ _ (c .before .before .enum-told .given .1)
+    (c .before .before .before .before .question-outcome .ensures))
     (sym (c .before .corner-inside .ensures) ∙ not-true _ (c .if1 .taken))
 
 returns-3 : tie.Need-returns-3
 returns-3 c =
     place-accepted _ _ _
-    (passed-said _ _ (c .before .before .enum-told .given .1) (c .before .before .before .before .question-outcome .ensures))
+    (passed-said _ _ (c .before .before .enum-told .given .1)
+    (c .before .before .before .before .question-outcome .ensures))
     (sym (c .before .corner-inside .ensures) ∙ not-false _ (c .if1 .left))
 
 pub window-outcome-spec : {M : Type 1} → statement M

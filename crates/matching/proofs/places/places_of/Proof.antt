@@ -1,11 +1,13 @@
--- `places::places_of` meets its contract. The invariant: each symbol met has a place, of the positions passed, that has it.
+-- `places::places_of` meets its contract. The invariant: each symbol met has a place, of the positions passed, that has
+-- it.
 -- Assumes nothing.
 use mathlib.Core.Path.{_≡_, refl}
 use native.Mathlib.Omega.{arith}
 use Prim.Native.Nat.{ℕ, _-_, _≤_, _<_}
 use lib.ListN.{length, getD}
 use denote.Ref.{now}
-use Rattle.matching.specs.Places.{PlacesTo, places-none, places-more}
+use Rattle.matching.specs.Places.{PlacesTo}
+use Rattle.matching.specs.Places.Laws.{places-none, places-more}
 use Rattle.matching.proofs.places.places_of.Statement.{statement}
 use Rattle.matching.proofs.places.places_of.Tie as tie
 
@@ -16,7 +18,8 @@ abbrev μ-loop : tie.MeasureT-loop
 μ-loop pattern places₀ p₀ places p = length pattern - p
 
 -- every symbol is a byte
-byte : (c : tie.After-shared-slice-known Inv-loop μ-loop) (k : ℕ) → getD (now (c .before .before .before .args .pattern)) k 0 < 256
+byte : (c : tie.After-shared-slice-known Inv-loop μ-loop) (k : ℕ)
+    → getD (now (c .before .before .before .args .pattern)) k 0 < 256
 byte c k = omega (arith, c .shared-slice-known .given k)
 
 loop-holds : tie.Need-loop-holds Inv-loop μ-loop

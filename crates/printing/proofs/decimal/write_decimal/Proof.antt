@@ -1,12 +1,12 @@
--- `decimal::write_decimal` meets its contract: by the number of digits, one, two or three, the stores are the digits written (`bytes-stored`), and there
--- is room for each of them (`bytes-room`).
+-- `decimal::write_decimal` meets its contract: by the number of digits, one, two or three, the stores are the digits
+-- written (`bytes-stored`), and there is room for each of them (`bytes-room`).
 -- Assumes nothing.
 use mathlib.Core.List.{[], _∷_}
 use native.Mathlib.Omega.{arith}
 use Prim.Native.Nat.{_+_, _/_, _%_, _≤_}
 use lib.ListN.{length, length-set}
 use denote.Ref.{now}
-use Rattle.printing.specs.Decimal.{decimal-one, decimal-two, decimal-three, bytes-room, bytes-stored}
+use Rattle.printing.specs.Decimal.Laws.{decimal-one, decimal-two, decimal-three, bytes-room, bytes-stored}
 use borrow.Author.Needs.{needs}
 use Rattle.printing.proofs.decimal.write_decimal.Statement.{statement}
 use Rattle.printing.proofs.decimal.write_decimal.Tie as tie

@@ -1,4 +1,5 @@
--- `lines::record_end` meets its contract: where a record stands, the reader answers the place behind it and does not refuse.
+-- `lines::record_end` meets its contract: where a record stands, the reader answers the place behind it and does not
+-- refuse.
 -- Assumes nothing.
 use denote.Ref.{now}
 use Rattle.printing.specs.Lines.Writing.{whole-end, no-refusal}

@@ -1,14 +1,12 @@
 -- `lines::write_bytes` meets its contract. The invariant: what is copied and what is left give the whole.
 -- Assumes nothing.
-use Rattle.printing.specs.Lines.Writing.{bytes-none, byte-room, byte-less, bytes-whole}
+use Rattle.printing.specs.Lines.Writing.{no-bytes, byte-room, byte-less, bytes-whole}
 use mathlib.Core.Path.{_∙_}
 use native.Mathlib.Omega.{arith}
 use Prim.Native.Nat.{_+_, _-_, _≤_}
 use lib.ListN.{length, drop}
-use Rattle.theory.specs.Written.{written}
-use Rattle.theory.specs.Written.{length-written}
+use Rattle.theory.specs.Written.{written, length-written}
 use Rattle.theory.specs.Pieces.{Left, left-long}
-use Rattle.printing.specs.Lines.Writing.{byte-room, byte-less, bytes-whole}
 use Rattle.printing.proofs.lines.write_bytes.Statement.{statement}
 use Rattle.printing.proofs.lines.write_bytes.Tie as tie
 
@@ -19,7 +17,7 @@ abbrev μ-loop : tie.MeasureT-loop
 μ-loop output₀ at bytes i₀ output i = length bytes - i
 
 loop-holds : tie.Need-loop-holds Inv-loop μ-loop
-loop-holds c = (omega arith, bytes-none _ _ _ (c .pre))
+loop-holds c = (omega arith, no-bytes _ _ _ (c .pre))
 
 shared-slice-read-output : tie.Need-shared-slice-read-output Inv-loop μ-loop
 shared-slice-read-output c = omega arith

@@ -1,12 +1,12 @@
--- `lines::write_line` meets its contract. The invariant: the numbers written and the line of those that are left give the whole line, and one is left.
+-- `lines::write_line` meets its contract. The invariant: the numbers written and the line of those that are left give
+-- the whole line, and one is left.
 -- Assumes nothing.
 use mathlib.Core.Path.{_≡_, _∙_, ap}
 use native.Mathlib.Omega.{arith}
 use Prim.Native.Nat.{_+_, _-_, _<_}
 use lib.ListN.{length, drop}
 use denote.Ref.{now}
-use Rattle.theory.specs.Written.{written}
-use Rattle.theory.specs.Written.{length-written}
+use Rattle.theory.specs.Written.{written, length-written}
 use Rattle.theory.specs.Pieces.{Left, left-all}
 use Rattle.printing.specs.Lines.{lineOf}
 use Rattle.printing.specs.Lines.Writing.{number-room, number-less, last-room, last-whole}

@@ -1,16 +1,17 @@
--- `lines::write_lines` meets its contract. The invariant: the lines of the records before the place are written, and the place is where a record begins or
--- the listing ends (`Reached`).
+-- `lines::write_lines` meets its contract. The invariant: the lines of the records before the place are written, and
+-- the place is where a record begins or the listing ends (`PrintedTo`).
 -- Assumes nothing.
 use native.Mathlib.Omega.{arith}
 use Prim.Native.Nat.{_-_, _<_, _≤_}
 use lib.ListN.{length}
 use denote.Ref.{now}
-use Rattle.printing.specs.Lines.Writing.{Reached, reached-none, reached-all, reached-long, record-here, next-inside, line-room, reached-more}
+use Rattle.printing.specs.Lines.Writing.{PrintedTo, printed-none, reached-all, printed-long, record-here}
+use Rattle.printing.specs.Lines.Writing.{next-inside, line-room, printed-more}
 use Rattle.printing.proofs.lines.write_lines.Statement.{statement}
 use Rattle.printing.proofs.lines.write_lines.Tie as tie
 
 abbrev Inv-loop : tie.InvT-loop
-Inv-loop output₀ at listing end₀ place₀ output end place = Reached listing output₀ at output end place
+Inv-loop output₀ at listing end₀ place₀ output end place = PrintedTo listing output₀ at output end place
 
 abbrev μ-loop : tie.MeasureT-loop
 μ-loop output₀ at listing end₀ place₀ output end place = length listing - place
@@ -25,7 +26,7 @@ inside c =
     (c .before .record-end .result) (c .before .record-end .ensures)
 
 loop-holds : tie.Need-loop-holds Inv-loop μ-loop
-loop-holds c = let o = c .before .before in reached-none _ _ _ (o .pre .1)
+loop-holds c = let o = c .before .before in printed-none _ _ _ (o .pre .1)
 
 record-end-requires : tie.Need-record-end-requires Inv-loop μ-loop
 record-end-requires c κs =
@@ -57,7 +58,7 @@ loop-again c =
     let o = c .before .before .before .before .before .before .before .before .before .before in
     let i = c .before .before .before .before .before .before .before .loop in
     let w = c .before .before .write-line .ensures in
-    reached-more (now (o .args .listing)) (now (o .args .output)) (o .args .at) (i .output) (i .end) (i .place) (i .inv) (o .pre .0)
+    printed-more (now (o .args .listing)) (now (o .args .output)) (o .args .at) (i .output) (i .end) (i .place) (i .inv) (o .pre .0)
     (c .before .before .before .before .before .before .loop-test .taken) (c .before .before .before .before .before .record-end .result)
     (c .before .before .before .before .before .record-end .ensures) _ _ (w .0) (w .1)
 
@@ -65,7 +66,7 @@ same-length : tie.Need-same-length Inv-loop μ-loop
 same-length c =
     let o = c .before .before .before .before in
     let i = c .before .loop in
-    reached-long _ _ _ _ _ _ (i .inv) (o .pre .0) (o .pre .1)
+    printed-long _ _ _ _ _ _ (i .inv) (o .pre .0) (o .pre .1)
 
 returns : tie.Need-returns Inv-loop μ-loop
 returns c = reached-all _ _ _ _ _ _ (c .before .loop .inv) (c .loop-test .left)

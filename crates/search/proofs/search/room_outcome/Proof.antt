@@ -1,14 +1,19 @@
--- `search::room_outcome` meets its contract: 2, 3, 4 by the shape's own check, then 9 and 10 by the lengths of the buffers.
+-- `search::room_outcome` meets its contract: 2, 3, 4 by the shape's own check, then 9 and 10 by the lengths of the
+-- buffers.
 -- Assumes nothing.
 use mathlib.Core.Path.{_≡_}
 use mathlib.Core.List.{[]}
 use Prim.Native.Nat.{_*_, _≤_}
 use native.Mathlib.Omega.{arith}
 use denote.Ref.{now}
-use Rattle.shapes.specs.Said.{accepts, passed-said}
-use Rattle.shapes.specs.Questions.{Question, asked, shapeSaid, windowsOf, stripOf, posed}
-use Rattle.shapes.specs.Shapes.{Sized, product-le}
-use Rattle.search.specs.Search.Accepted.{room-stopped, room-links-refused, room-counts-refused, room-flags-refused, room-accepted}
+use Rattle.shapes.specs.Said.{accepts}
+use Rattle.shapes.specs.Said.Laws.{passed-said}
+use Rattle.shapes.specs.Questions.{Question, asked, shapeSaid, windowsOf, linksNeeded}
+use Rattle.shapes.specs.Questions.Laws.{posed}
+use Rattle.shapes.specs.Shapes.{Sized}
+use Rattle.shapes.specs.Shapes.Laws.{product-le}
+use Rattle.search.specs.Search.Accepted.{room-stopped, room-links-refused, room-counts-refused}
+use Rattle.search.specs.Search.Accepted.{room-flags-refused, room-accepted}
 use borrow.Author.Needs.{needs}
 use Rattle.search.proofs.search.room_outcome.Statement.{statement}
 use Rattle.search.proofs.search.room_outcome.Tie as tie
@@ -31,7 +36,7 @@ sized c = posed _ [] (shape-good c) .shape .sized
 few : (c : tie.After-enum-told) → windowsOf (asking (entry c)) ≤ 255 * 255
 few c = let s = sized c in product-le _ _ 255 255 (omega arith) (omega arith)
 
-strip-few : (c : tie.After-enum-told) → stripOf (asking (entry c)) ≤ 255 * 255
+strip-few : (c : tie.After-enum-told) → linksNeeded (asking (entry c)) ≤ 255 * 255
 strip-few c = let s = sized c in product-le _ _ 255 255 (omega arith) (omega arith)
 
 question-outcome-requires : tie.Need-question-outcome-requires

@@ -1,11 +1,13 @@
--- `search::search` meets its contract: refused as its outcome says, nothing is written; else the rest of the chain is 11 or nothing (`search_windows`).
+-- `search::search` meets its contract: refused as its outcome says, nothing is written; else the rest of the chain is
+-- 11 or nothing (`search_windows`).
 -- Assumes nothing.
 use mathlib.Core.Path.{_≡_, _∙_}
 use mathlib.Core.List.{[]}
 use native.Mathlib.Omega.{arith}
 use denote.Ref.{now}
 use Rattle.theory.specs.Bytes.{Bytes}
-use Rattle.shapes.specs.Said.{accepts, passed-said}
+use Rattle.shapes.specs.Said.{accepts}
+use Rattle.shapes.specs.Said.Laws.{passed-said}
 use Rattle.shapes.specs.Questions.{Question, ask}
 use Rattle.flags.specs.Flags.{roomsOf}
 use Rattle.search.specs.Search.{Lent, lend, roomSaid}

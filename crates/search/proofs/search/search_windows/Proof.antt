@@ -1,10 +1,10 @@
--- `search::search_windows` meets its contract: the flags are those of all windows, so their totals and the length are right (`totals`), and the listing
--- is written just where there is room for it (`listing-fits`).
+-- `search::search_windows` meets its contract: the flags are those of all windows, so their totals and the length are
+-- right (`totals`), and the listing is written just where there is room for it (`listing-fits`).
 -- Assumes nothing.
 use native.Mathlib.Omega.{arith}
 use denote.Ref.{now}
-use Rattle.grid.specs.Counts.{windows-small}
-use Rattle.flags.specs.Flags.{pattern-small}
+use Rattle.grid.specs.Counts.Laws.{windows-small}
+use Rattle.flags.specs.Flags.Laws.{pattern-small}
 use Rattle.shapes.specs.Questions.{asked}
 use Rattle.search.specs.Search.{lend}
 use Rattle.search.specs.Search.Answers.{says-short, says-listed}

@@ -1,11 +1,12 @@
--- `totals::count_found` meets its contract. The invariant: what is counted are the ones among the flags passed; a flag is 1 or is not (`ones-hit`, `ones-miss`).
+-- `totals::count_found` meets its contract. The invariant: what is counted are the ones among the flags passed; a flag
+-- is 1 or is not (`ones-hit`, `ones-miss`).
 -- Assumes nothing.
 use mathlib.Core.Path.{_≡_, _∙_, ap}
 use mathlib.Core.Logic.{⊎-elim}
 use Prim.Native.Nat.{_-_, _≤_}
 use native.Mathlib.Omega.{arith}
 use denote.Ref.{now}
-use Rattle.search.specs.Listing.Totals.{ones, ones-none, ones-hit, ones-miss, ones-le}
+use Rattle.writer.specs.Listing.Totals.{ones, ones-none, ones-hit, ones-miss, ones-le}
 use Rattle.search.proofs.totals.count_found.Statement.{statement}
 use Rattle.search.proofs.totals.count_found.Tie as tie
 

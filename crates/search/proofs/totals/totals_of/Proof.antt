@@ -1,13 +1,13 @@
--- `totals::totals_of` meets its contract: the flags that are not 1 are the rest of them (`others-left`), and no product or sum is too large since each
--- number is of 16 bits (`bytes-few`).
+-- `totals::totals_of` meets its contract: the flags that are not 1 are the rest of them (`others-left`), and no product
+-- or sum is too large since each number is of 16 bits (`bytes-few`).
 -- Assumes nothing.
 use mathlib.Core.Path.{ap}
 use Prim.Native.Nat.{ℕ, _+_, _-_, _*_, _≤_}
 use native.Mathlib.Omega.{arith}
 use denote.Ref.{now}
-use Rattle.shapes.specs.Shapes.{product-le}
-use Rattle.search.specs.Listing.{listingLength}
-use Rattle.search.specs.Listing.Totals.{ones-le, others-left}
+use Rattle.shapes.specs.Shapes.Laws.{product-le}
+use Rattle.writer.specs.Listing.{listingLength}
+use Rattle.writer.specs.Listing.Totals.{ones-le, others-left}
 use borrow.Author.Needs.{needs}
 use Rattle.search.proofs.totals.totals_of.Statement.{statement}
 use Rattle.search.proofs.totals.totals_of.Tie as tie

@@ -1,5 +1,5 @@
--- `sets::symbols::clear_bit` meets its contract: 1 << k is 2 ^ k, since k is below 64. Where w has bit k it is at least 2 ^ k, and only bit k of
--- w - 2 ^ k differs from w's; where w does not have it, w is right as it is.
+-- `sets::symbols::clear_bit` meets its contract: 1 << k is 2 ^ k, since k is below 64. Where w has bit k it is at least
+-- 2 ^ k, and only bit k of w - 2 ^ k differs from w's; where w does not have it, w is right as it is.
 -- Assumes nothing.
 use mathlib.Core.Path.{_≡_, ap, _∙_}
 use mathlib.Core.Bool.{true}

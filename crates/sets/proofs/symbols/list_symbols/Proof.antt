@@ -1,4 +1,5 @@
--- `symbols::list_symbols` meets its contract. The invariant: a is the lowest symbol that is left, and the symbols written with those left are all of the set.
+-- `symbols::list_symbols` meets its contract. The invariant: a is the lowest symbol that is left, and the symbols
+-- written with those left are all of the set.
 -- Assumes nothing.
 use mathlib.Core.Path.{_≡_}
 use native.Mathlib.Omega.{arith}
@@ -7,12 +8,12 @@ use borrow.Author.Needs.{needs}
 use Rattle.theory.specs.Count.{members}
 use Rattle.sets.specs.Symbols.{has, lowestOf}
 use Rattle.sets.specs.Symbols.Taken.{members-less}
-use Rattle.sets.specs.Symbols.Listed.{Listed, listed-none, listed-room, listed-more, listed-all}
+use Rattle.sets.specs.Symbols.Listed.{Listed, listed-none, listed-room, listed-more, listed-number, listed-all}
 use Rattle.sets.proofs.symbols.list_symbols.Statement.{statement}
 use Rattle.sets.proofs.symbols.list_symbols.Tie as tie
 
 abbrev Inv-loop : tie.InvT-loop
-Inv-loop listed₀ rest₀ k₀ a₀ listed rest k a = (a ≡ lowestOf rest) × Listed rest₀ rest k listed
+Inv-loop listed₀ rest₀ k₀ a₀ listed rest k a = (a ≡ lowestOf rest) × Listed rest₀ rest listed₀ k listed
 
 abbrev μ-loop : tie.MeasureT-loop
 μ-loop listed₀ rest₀ k₀ a₀ listed rest k a = length (members (has rest) 256)
@@ -27,7 +28,7 @@ cast-symbol : tie.Need-cast-symbol Inv-loop μ-loop
 cast-symbol c = omega arith
 
 element-write-listed : tie.Need-element-write-listed Inv-loop μ-loop
-element-write-listed c = let i = c .before .loop in listed-room _ _ _ _ (i .inv .1) _ (i .inv .0) (omega (arith, c .loop-test .taken))
+element-write-listed c = let i = c .before .loop in listed-room _ _ _ _ _ (i .inv .1) _ (i .inv .0) (omega (arith, c .loop-test .taken))
 
 add-k : tie.Need-add-k Inv-loop μ-loop
 add-k c = let i = c .before .loop in omega (arith, i .inv .1 .room)
@@ -46,12 +47,12 @@ loop-less c =
 loop-again : tie.Need-loop-again Inv-loop μ-loop
 loop-again c =
     let i = c .before .before .before .loop in
-    (c .lowest2 .ensures, listed-more _ _ _ _ (i .inv .1) _ (i .inv .0) (omega (arith, c .before .before .loop-test .taken)) _ (c .before .without .ensures))
+    (c .lowest2 .ensures, listed-more _ _ _ _ _ (i .inv .1) _ (i .inv .0) (omega (arith, c .before .before .loop-test .taken)) _ (c .before .without .ensures))
 
 returns : tie.Need-returns Inv-loop μ-loop
 returns c =
     let i = c .before .loop .inv in
-    (listed-all _ _ _ _ (i .1) _ (i .0) (omega arith), (omega (arith, i .1 .room), i .1 .long))
+    (listed-number _ _ _ _ _ (i .1) _ (i .0) (omega arith), listed-all _ _ _ _ _ (i .1) _ (i .0) (omega arith))
 
 pub list-symbols-spec : {M : Type 1} → statement M
 list-symbols-spec =

@@ -1,5 +1,5 @@
--- `symbols::pattern_size` meets its contract: the size of the symbol set is the number of different symbols (`size-distinct`), and there are no more of
--- them than cells.
+-- `symbols::pattern_size` meets its contract: the size of the symbol set is the number of different symbols
+-- (`size-distinct`), and there are no more of them than cells.
 -- Assumes nothing.
 use mathlib.Core.Path.{_≡_, _∙_, ap}
 use native.Mathlib.Omega.{arith}
@@ -7,7 +7,8 @@ use borrow.Author.Needs.{needs}
 use denote.Ref.{now}
 use Rattle.sets.specs.Symbols.{sizeOf}
 use Rattle.sets.specs.Symbols.Patterns.{size-distinct}
-use Rattle.grid.specs.Distinct.{distinct, distinct-le}
+use Rattle.grid.specs.Distinct.{distinct}
+use Rattle.grid.specs.Distinct.Laws.{distinct-le}
 use Rattle.sets.proofs.symbols.pattern_size.Statement.{statement}
 use Rattle.sets.proofs.symbols.pattern_size.Tie as tie
 

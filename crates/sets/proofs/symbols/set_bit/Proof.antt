@@ -1,4 +1,5 @@
--- `sets::symbols::set_bit` meets its contract: 1 << k is 2 ^ k, since k is below 64, and only bit k of w | 2 ^ k can differ from w's.
+-- `sets::symbols::set_bit` meets its contract: 1 << k is 2 ^ k, since k is below 64, and only bit k of w | 2 ^ k can
+-- differ from w's.
 -- Assumes nothing.
 use mathlib.Core.Path.{ap, _∙_}
 use borrow.Author.Needs.{needs}

@@ -1,5 +1,5 @@
--- `sets::symbols::symbols_of` meets its contract. The loop's invariant: i is at most the pattern's length, and s is the set of the first i symbols.
--- One turn adds the symbol at i. The measure is what is left of the pattern.
+-- `sets::symbols::symbols_of` meets its contract. The loop's invariant: i is at most the pattern's length, and s is the
+-- set of the first i symbols. One turn adds the symbol at i. The measure is what is left of the pattern.
 -- Assumes nothing.
 use mathlib.Core.Path.{_≡_, _∙_}
 use Prim.Native.Nat.{_≤_, _-_, zero-le}

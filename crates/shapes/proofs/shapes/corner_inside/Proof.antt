@@ -2,8 +2,8 @@
 -- Assumes nothing.
 use mathlib.Core.Path.{sym, _∙_}
 use borrow.Author.Tests.{not-true, not-false}
-use Rattle.theory.specs.Test.{tested-same, tested-iff, le-tested, is-false, says-true, says-false}
-use Rattle.shapes.specs.Shapes.{corner-inside}
+use Rattle.theory.specs.Test.Laws.{tested-same, tested-iff, le-tested, is-false, says-true, says-false}
+use Rattle.shapes.specs.Shapes.Laws.{corner-inside}
 use borrow.Author.Needs.{needs}
 use Rattle.shapes.proofs.shapes.corner_inside.Statement.{statement}
 use Rattle.shapes.proofs.shapes.corner_inside.Tie as tie

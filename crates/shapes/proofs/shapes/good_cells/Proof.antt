@@ -1,11 +1,12 @@
--- `shapes::good_cells` meets its contract: a number is rows × columns exactly if columns divides it with the quotient rows.
+-- `shapes::good_cells` meets its contract: a number is rows × columns exactly if columns divides it with the quotient
+-- rows.
 -- Assumes nothing.
 use mathlib.Core.Path.{_≡_, sym, _∙_}
 use native.Mathlib.Omega.{arith}
 use Prim.Native.Nat.{ℕ, _*_, _/_, _%_, _<_}
 use native.Mathlib.Nat.{div-add-mod', mul-zero, mul-mod-left, mul-div-cancel, add-zero}
-use Rattle.theory.specs.Test.{tested-same, tested-iff, eq-tested, is-false}
-use Rattle.shapes.specs.Shapes.{good-cells}
+use Rattle.theory.specs.Test.Laws.{tested-same, tested-iff, eq-tested, is-false}
+use Rattle.shapes.specs.Shapes.Laws.{good-cells}
 use borrow.Author.Needs.{needs}
 use Rattle.shapes.proofs.shapes.good_cells.Statement.{statement}
 use Rattle.shapes.proofs.shapes.good_cells.Tie as tie

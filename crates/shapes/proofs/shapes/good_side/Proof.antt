@@ -2,8 +2,8 @@
 -- Assumes nothing.
 use mathlib.Core.Path.{sym, _∙_}
 use native.Mathlib.Omega.{arith}
-use Rattle.theory.specs.Test.{tested-same, tested-iff, le-tested, is-false}
-use Rattle.shapes.specs.Shapes.{good-side}
+use Rattle.theory.specs.Test.Laws.{tested-same, tested-iff, le-tested, is-false}
+use Rattle.shapes.specs.Shapes.Laws.{good-side}
 use Rattle.shapes.proofs.shapes.good_side.Statement.{statement}
 use Rattle.shapes.proofs.shapes.good_side.Tie as tie
 

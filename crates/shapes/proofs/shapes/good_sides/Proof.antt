@@ -2,8 +2,8 @@
 -- Assumes nothing.
 use mathlib.Core.Path.{sym, _∙_}
 use borrow.Author.Tests.{not-true, not-false}
-use Rattle.theory.specs.Test.{tested-same, tested-iff, is-false, says-true, says-false}
-use Rattle.shapes.specs.Shapes.{good-side, good-sides}
+use Rattle.theory.specs.Test.Laws.{tested-same, tested-iff, is-false, says-true, says-false}
+use Rattle.shapes.specs.Shapes.Laws.{good-side, good-sides}
 use borrow.Author.Needs.{needs}
 use Rattle.shapes.proofs.shapes.good_sides.Statement.{statement}
 use Rattle.shapes.proofs.shapes.good_sides.Tie as tie

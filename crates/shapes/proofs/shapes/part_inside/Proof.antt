@@ -3,7 +3,7 @@
 use mathlib.Core.Path.{sym}
 use Prim.Native.Nat.{_+_, _-_, _≤_}
 use native.Mathlib.Omega.{arith}
-use Rattle.theory.specs.Test.{tested-same, tested-iff, le-tested, is-false}
+use Rattle.theory.specs.Test.Laws.{tested-same, tested-iff, le-tested, is-false}
 use Rattle.shapes.proofs.shapes.part_inside.Statement.{statement}
 use Rattle.shapes.proofs.shapes.part_inside.Tie as tie
 

@@ -2,8 +2,8 @@
 -- Assumes nothing.
 use mathlib.Core.Path.{sym}
 use native.Mathlib.Omega.{arith}
-use Rattle.theory.specs.Test.{tested-same, tested-iff, le-tested, is-false}
-use Rattle.shapes.specs.Shapes.{fits-tested}
+use Rattle.theory.specs.Test.Laws.{tested-same, tested-iff, le-tested, is-false}
+use Rattle.shapes.specs.Shapes.Laws.{fits-tested}
 use Rattle.shapes.proofs.shapes.window_fits.Statement.{statement}
 use Rattle.shapes.proofs.shapes.window_fits.Tie as tie
 

@@ -4,8 +4,8 @@ use mathlib.Core.Path.{sym}
 use native.Mathlib.Omega.{arith}
 use Prim.Native.Nat.{_*_, _≤_}
 use native.Mathlib.Nat.{add-sub-cancel-left}
-use Rattle.shapes.specs.Shapes.{product-le}
-use Rattle.shapes.specs.Windows.{row-cells-is, row-cells-cut, row-cells-past}
+use Rattle.shapes.specs.Shapes.Laws.{product-le}
+use Rattle.shapes.specs.Windows.Laws.{row-cells-is, row-cells-cut, row-cells-past}
 use borrow.Author.Needs.{needs}
 use Rattle.shapes.proofs.windows.row_cells.Statement.{statement}
 use Rattle.shapes.proofs.windows.row_cells.Tie as tie

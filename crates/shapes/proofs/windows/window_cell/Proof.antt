@@ -1,10 +1,11 @@
--- `windows::window_cell` meets its contract: the place is formed as `place` is, and fits since corner and width are bytes.
+-- `windows::window_cell` meets its contract: the place is formed as `place` is, and fits since corner and width are
+-- bytes.
 -- Assumes nothing.
 use mathlib.Core.Path.{refl}
 use native.Mathlib.Omega.{arith}
 use Prim.Native.Nat.{_+_, _*_, _≤_}
-use Rattle.shapes.specs.Shapes.{product-le}
-use Rattle.shapes.specs.Windows.{cell-inside, cell-past-end}
+use Rattle.shapes.specs.Shapes.Laws.{product-le}
+use Rattle.shapes.specs.Windows.Laws.{cell-inside, cell-past-end}
 use borrow.Author.Needs.{needs}
 use Rattle.shapes.proofs.windows.window_cell.Statement.{statement}
 use Rattle.shapes.proofs.windows.window_cell.Tie as tie

@@ -1,4 +1,5 @@
--- `check::check` meets its contract: refused as the shape's own check says, with nothing besides; else the walk's answer is the check's.
+-- `check::check` meets its contract: refused as the shape's own check says, with nothing besides; else the walk's
+-- answer is the check's.
 -- Assumes nothing.
 use mathlib.Core.Path.{_≡_}
 use mathlib.Core.List.{[]}
@@ -6,9 +7,11 @@ use native.Mathlib.Omega.{arith}
 use borrow.Author.Needs.{needs}
 use denote.Ref.{now}
 use Rattle.theory.specs.Bytes.{Bytes}
-use Rattle.shapes.specs.Said.{accepts, passed-said}
-use Rattle.shapes.specs.Questions.{Question, ask, shapeSaid, posed}
-use Rattle.verify.specs.Answers.{check-walked, check-refused}
+use Rattle.shapes.specs.Said.{accepts}
+use Rattle.shapes.specs.Said.Laws.{passed-said}
+use Rattle.shapes.specs.Questions.{Question, ask, shapeSaid}
+use Rattle.shapes.specs.Questions.Laws.{posed}
+use Rattle.verify.specs.Check.Answers.{check-walked, check-refused}
 use Rattle.verify.proofs.check.check.Statement.{statement}
 use Rattle.verify.proofs.check.check.Tie as tie
 

@@ -1,19 +1,18 @@
--- `check::check_listing` meets its contract: a window that stops the walk is the answer, and else the closing is, with the windows that are not found as
--- those refused (`refused-rest`).
+-- `check::check_listing` meets its contract: a window that stops the walk is the answer, and else the closing is, with
+-- the windows that are not found as those refused (`refused-rest`).
 -- Assumes nothing.
-use mathlib.Core.Path.{_≡_, refl, sym, _∙_, ap, subst}
+use mathlib.Core.Path.{_≡_, refl, sym, _∙_, subst}
 use native.Mathlib.Omega.{arith}
 use Prim.Native.Nat.{_*_, _≤_}
 use borrow.Author.Needs.{needs}
 use denote.Ref.{now}
 use Rattle.shapes.specs.Questions.{asked}
 use Rattle.shapes.specs.Shapes.{across, down}
-use Rattle.grid.specs.Counts.{windows-small}
-use Rattle.claims.specs.Claims.{goes}
+use Rattle.grid.specs.Counts.Laws.{windows-small}
+use Rattle.claims.specs.declared.walks.Walk.the-variants.{Goes}
 use Rattle.verify.specs.Check.{windowsTo, foundTo}
-use Rattle.claims.specs.Passages.{courseOf}
 use Rattle.verify.specs.Windows.{WindowsWalked, found-le}
-use Rattle.verify.specs.Answers.{stopped-answer, closing-stopped, closing-kept}
+use Rattle.verify.specs.Check.Answers.{stopped-answer, closing-stopped, closing-kept}
 use Rattle.verify.proofs.check.check_listing.Statement.{statement}
 use Rattle.verify.proofs.check.check_listing.Tie as tie
 
@@ -23,7 +22,7 @@ entry c = c .before .before .before .before
 
 -- all windows are right: where they end, and how many stand as found
 passed : (c : tie.After-walked2) → let a = entry (c .before .before) .args in
-    (windowsTo (asked (now (a .text)) (now (a .pattern)) (a .s)) (now (a .listing)) (down (a .s) * across (a .s)) ≡ goes (c .walked2 .given .0 .0))
+    (windowsTo (asked (now (a .text)) (now (a .pattern)) (a .s)) (now (a .listing)) (down (a .s) * across (a .s)) ≡ Goes (c .walked2 .given .0 .0))
     × (c .walked2 .given .0 .1 .0 ≡ foundTo (asked (now (a .text)) (now (a .pattern)) (a .s)) (now (a .listing)) (down (a .s) * across (a .s)))
 passed c =
     let a = entry (c .before .before) .args in
@@ -93,7 +92,7 @@ returns-2 c =
     let a = entry (w .before .before) .args in
     let p = passed w in
     closing-stopped (asked (now (a .text)) (now (a .pattern)) (a .s)) (now (a .listing)) _ _ (p .0) (p .1) _ refl
-    (c .before .last .given .0 .0) (ap courseOf (sym (c .before .last .given .1)) ∙ c .before .before .before .read-closing .ensures)
+    (c .before .last .given .0 .0) (sym (c .before .last .given .1) ∙ c .before .before .before .read-closing .ensures)
 
 returns-3 : tie.Need-returns-3
 returns-3 c =
@@ -101,7 +100,7 @@ returns-3 c =
     let a = entry (w .before .before) .args in
     let p = passed w in
     closing-kept (asked (now (a .text)) (now (a .pattern)) (a .s)) (now (a .listing)) _ _ (p .0) (p .1) _ refl
-    (c .enum-told .given .0 .0) (ap courseOf (sym (c .enum-told .given .1)) ∙ c .before .before .read-closing .ensures)
+    (c .enum-told .given .0 .0) (sym (c .enum-told .given .1) ∙ c .before .before .read-closing .ensures)
 
 pub check-listing-spec : {M : Type 1} → statement M
 check-listing-spec =

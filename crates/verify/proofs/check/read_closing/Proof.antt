@@ -1,6 +1,7 @@
--- `check::read_closing` meets its contract: where the reader answers with a closing, its counts and its end decide; with anything else, none stands there.
+-- `check::read_closing` meets its contract: where the reader answers with a closing, its counts and its end decide;
+-- with anything else, none stands there.
 -- Assumes nothing.
-use mathlib.Core.Path.{_≡_, subst}
+use mathlib.Core.Path.{_≡_, sym, _∙_, ap, subst}
 use mathlib.Core.Logic.{inl, inr}
 use mathlib.Core.List.{[], _∷_}
 use native.Mathlib.Omega.{arith}
@@ -10,12 +11,13 @@ use denote.Enum.Declared.{tagOf}
 use borrow.Author.Needs.{needs}
 use denote.Ref.{now}
 use Rattle.listing.specs.Records.{bytesOf}
-use Rattle.listing.specs.Reader.{Reads}
+use Rattle.listing.specs.Reader.{readSaid, cursorSaid}
 use Rattle.listing.specs.declared.reader.Read.the-variants.{Whole}
 use Rattle.listing.specs.declared.records.Record.{Record}
 use Rattle.listing.specs.declared.records.Record.the-variants.{Found, Pair, AlikeInPattern, AlikeInWindow, Closing}
 use Rattle.listing.proofs.records.Record.{the-type}
-use Rattle.verify.specs.Entries.{closing-none, closing-other, other-found, other-refused, closing-not-last, closing-last}
+use Rattle.verify.specs.Entries.{closing-none, closing-other, other-found, other-refused, closing-not-last}
+use Rattle.verify.specs.Entries.{closing-last}
 use Rattle.verify.proofs.check.read_closing.Statement.{statement}
 use Rattle.verify.proofs.check.read_closing.Tie as tie
 
@@ -35,15 +37,15 @@ not-closing (Closing a b) k e = none k
 
 -- the reader answers with a whole record
 whole : (c : tie.After-item) → let a = c .before .before .before .before .args in
-    Reads (now (a .listing)) (a .at) (Whole (c .item .given .0 .0) (c .item .given .0 .1 .0))
-whole c = let a = c .before .before .before .before .args in subst (Reads (now (a .listing)) (a .at)) (c .item .given .1) (c .before .before .read .ensures)
+    readSaid (Whole (c .item .given .0 .0) (c .item .given .0 .1 .0)) ≡ cursorSaid (now (a .listing)) (a .at)
+whole c = let a = c .before .before .before .before .args in sym (ap readSaid (c .item .given .1)) ∙ c .before .before .read .ensures
 
 -- which is a closing
 closing : (c : tie.After-item2) → let a = c .before .before .before .before .before .before .before .args in
-    Reads (now (a .listing)) (a .at) (Whole (Closing (c .item2 .given .0 .0) (c .item2 .given .0 .1 .0)) (c .before .before .before .item .given .0 .1 .0))
+    readSaid (Whole (Closing (c .item2 .given .0 .0) (c .item2 .given .0 .1 .0)) (c .before .before .before .item .given .0 .1 .0)) ≡ cursorSaid (now (a .listing)) (a .at)
 closing c =
     let a = c .before .before .before .before .before .before .before .args in
-    subst (λ (r : Record). Reads (now (a .listing)) (a .at) (Whole r (c .before .before .before .item .given .0 .1 .0))) (c .item2 .given .1) (whole (c .before .before .before))
+    subst (λ (r : Record). readSaid (Whole r (c .before .before .before .item .given .0 .1 .0)) ≡ cursorSaid (now (a .listing)) (a .at)) (c .item2 .given .1) (whole (c .before .before .before))
 
 read-requires : tie.Need-read-requires
 read-requires c κs = search needs
@@ -58,7 +60,7 @@ returns : tie.Need-returns
 returns c =
     let a = c .before .before .before .before .args in
     closing-none (now (a .listing)) (a .found) (a .refused) (a .at) (c .enum-told .given .0 .0)
-    (subst (Reads (now (a .listing)) (a .at)) (c .enum-told .given .1) (c .before .before .read .ensures))
+    (sym (ap readSaid (c .enum-told .given .1)) ∙ c .before .before .read .ensures)
 
 enum-known-item-2 : tie.Need-enum-known-item-2
 enum-known-item-2 c = search needs

@@ -1,7 +1,7 @@
 -- `entries::is_due` meets its contract: it is the definition, row first.
 -- Assumes nothing.
 use borrow.Author.Tests.{eq-eqb, ne-eqb}
-use Rattle.theory.specs.Test.{first-fails, first-passes}
+use Rattle.theory.specs.Test.Laws.{first-fails, first-passes}
 use Rattle.verify.proofs.entries.is_due.Statement.{statement}
 use Rattle.verify.proofs.entries.is_due.Tie as tie
 

@@ -1,16 +1,17 @@
--- `entries::read_entry` meets its contract: the record that stands first decides which way the walk goes (`Entries.antt`), and marks that are untouched stay
--- below a later base.
+-- `entries::read_entry` meets its contract: the record that stands first decides which way the walk goes
+-- (`Entries.antt`), and marks that are untouched stay below a later base.
 -- Assumes nothing.
-use mathlib.Core.Path.{_≡_, sym, _∙_, subst}
+use mathlib.Core.Path.{_≡_, sym, _∙_, ap, subst}
 use borrow.Author.Needs.{needs}
 use borrow.Author.Tests.{not-true, not-false}
 use denote.Ref.{now}
-use Rattle.theory.specs.Older.{older-next}
-use Rattle.listing.specs.Reader.{Reads}
+use Rattle.theory.specs.Older.Laws.{older-next}
+use Rattle.listing.specs.Reader.{readSaid, cursorSaid}
 use Rattle.listing.specs.declared.records.Record.{Record}
 use Rattle.listing.specs.declared.reader.Cursor.{Cursor}
 use Rattle.listing.specs.declared.reader.Read.the-variants.{Whole}
-use Rattle.verify.specs.Entries.{pattern-body, window-body, entry-none, entry-pair, entry-closing, entry-pattern, entry-window, entry-not-due, entry-found}
+use Rattle.verify.specs.Entries.{pattern-body, window-body, entry-none, entry-pair, entry-closing, entry-pattern}
+use Rattle.verify.specs.Entries.{entry-window, entry-not-due, found-entry-passes}
 use Rattle.verify.proofs.entries.read_entry.Statement.{statement}
 use Rattle.verify.proofs.entries.read_entry.Tie as tie
 
@@ -22,11 +23,11 @@ entry c = c .before .before .before .before .before .before .before
 abbrev next : tie.After-item → Cursor
 next c = c .item .given .0 .1 .0
 
-whole : (c : tie.After-item) (r : Record) → c .item .given .0 .0 ≡ r → let a = entry c .args in Reads (now (a .listing)) (a .at) (Whole r (next c))
+whole : (c : tie.After-item) (r : Record) → c .item .given .0 .0 ≡ r → let a = entry c .args in readSaid (Whole r (next c)) ≡ cursorSaid (now (a .listing)) (a .at)
 whole c r e =
     let a = entry c .args in
-    subst (λ (s : Record). Reads (now (a .listing)) (a .at) (Whole s (next c))) e
-    (subst (Reads (now (a .listing)) (a .at)) (c .item .given .1) (c .before .before .read .ensures))
+    subst (λ (s : Record). readSaid (Whole s (next c)) ≡ cursorSaid (now (a .listing)) (a .at)) e
+    (sym (ap readSaid (c .item .given .1)) ∙ c .before .before .read .ensures)
 
 read-requires : tie.Need-read-requires
 read-requires c κs = search needs
@@ -42,8 +43,8 @@ returns c =
     let o = c .before .before .before .before .before .before .before in
     let a = o .args in (
       entry-none (now (a .text)) (now (a .pattern)) (a .v) (now (a .listing)) (a .at) (c .enum-told .given .0 .0)
-          (subst (Reads (now (a .listing)) (a .at)) (c .enum-told .given .1) (c .before .before .read .ensures)),
-      (older-next (a .base) (now (a .given)) (o .pre .4), o .pre .3),
+          (sym (ap readSaid (c .enum-told .given .1)) ∙ c .before .before .read .ensures),
+      (older-next (a .base) (now (a .given)) (o .pre .4), (o .pre .3, o .pre .6)),
     )
 
 enum-known-item-2 : tie.Need-enum-known-item-2
@@ -59,7 +60,7 @@ returns-2 c =
     let a = o .args in (
       entry-not-due (now (a .text)) (now (a .pattern)) (a .v) (now (a .listing)) (a .at) _ _ _ (whole (i .before .before .before) _ (i .item2 .given .1))
           (sym (c .before .is-due .ensures) ∙ not-true _ (c .if1 .taken)),
-      (older-next (a .base) (now (a .given)) (o .pre .4), o .pre .3),
+      (older-next (a .base) (now (a .given)) (o .pre .4), (o .pre .3, o .pre .6)),
     )
 
 found-pairs-requires : tie.Need-found-pairs-requires
@@ -93,10 +94,10 @@ enum-told-3 c = search needs
 
 returns-3 : tie.Need-returns-3
 returns-3 c =
-    let e = c .before .before .before in
+    let e = c .before .before .before .before .before .before in
     let i = e .before .before .before in
     let a = entry (i .before .before .before) .args in (
-      entry-found (now (a .text)) (now (a .pattern)) (a .v) (now (a .listing)) (a .at) _ _ _ (whole (i .before .before .before) _ (i .item2 .given .1))
+      found-entry-passes (now (a .text)) (now (a .pattern)) (a .v) (now (a .listing)) (a .at) _ _ _ (whole (i .before .before .before) _ (i .item2 .given .1))
           (sym (e .before .is-due .ensures) ∙ not-false _ (e .if1 .left)) _ (c .found-pairs .ensures .0),
       c .found-pairs .ensures .1,
     )
@@ -107,7 +108,7 @@ returns-4 c =
     let o = entry (i .before .before .before) in
     let a = o .args in (
       entry-pattern (now (a .text)) (now (a .pattern)) (a .v) (now (a .listing)) (a .at) _ _ (whole (i .before .before .before) _ (i .item3 .given .1)) _ (c .refused-window .ensures),
-      (older-next (a .base) (now (a .given)) (o .pre .4), o .pre .3),
+      (older-next (a .base) (now (a .given)) (o .pre .4), (o .pre .3, o .pre .6)),
     )
 
 returns-5 : tie.Need-returns-5
@@ -116,7 +117,7 @@ returns-5 c =
     let o = entry (i .before .before .before) in
     let a = o .args in (
       entry-window (now (a .text)) (now (a .pattern)) (a .v) (now (a .listing)) (a .at) _ _ (whole (i .before .before .before) _ (i .item4 .given .1)) _ (c .refused-window2 .ensures),
-      (older-next (a .base) (now (a .given)) (o .pre .4), o .pre .3),
+      (older-next (a .base) (now (a .given)) (o .pre .4), (o .pre .3, o .pre .6)),
     )
 
 returns-6 : tie.Need-returns-6
@@ -125,7 +126,7 @@ returns-6 c =
     let o = entry i in
     let a = o .args in (
       entry-pair (now (a .text)) (now (a .pattern)) (a .v) (now (a .listing)) (a .at) _ _ _ (whole i _ (c .enum-told2 .given .1)),
-      (older-next (a .base) (now (a .given)) (o .pre .4), o .pre .3),
+      (older-next (a .base) (now (a .given)) (o .pre .4), (o .pre .3, o .pre .6)),
     )
 
 returns-7 : tie.Need-returns-7
@@ -134,7 +135,7 @@ returns-7 c =
     let o = entry i in
     let a = o .args in (
       entry-closing (now (a .text)) (now (a .pattern)) (a .v) (now (a .listing)) (a .at) _ _ _ (whole i _ (c .enum-told3 .given .1)),
-      (older-next (a .base) (now (a .given)) (o .pre .4), o .pre .3),
+      (older-next (a .base) (now (a .given)) (o .pre .4), (o .pre .3, o .pre .6)),
     )
 
 pub read-entry-spec : {M : Type 1} → statement M

@@ -1,4 +1,5 @@
--- `entries::refused_window` meets its contract: the body is the record's, and its two tests are those of a right mismatch, in the same order.
+-- `entries::refused_window` meets its contract: the body is the record's, and its two tests are those of a right
+-- mismatch, in the same order.
 -- Assumes nothing.
 use mathlib.Core.Path.{_≡_, sym, _∙_}
 use mathlib.Core.Bool.{Bool, true, false}
@@ -9,7 +10,7 @@ use denote.Ref.{now}
 use Rattle.theory.specs.Test.{both}
 use Rattle.matching.specs.Compare.{patternAt, windowOf}
 use Rattle.claims.specs.Claims.{trueMismatch}
-use Rattle.verify.specs.Entries.{other-window, not-spoiled, is-spoiled}
+use Rattle.verify.specs.Entries.{other-window, mismatch-fails, mismatch-holds}
 use Rattle.verify.proofs.entries.refused_window.Statement.{statement}
 use Rattle.verify.proofs.entries.refused_window.Tie as tie
 
@@ -24,17 +25,17 @@ not-due : (c : tie.Then1) → let a = c .before .before .before .before .before 
 not-due c = sym (c .before .is-due .ensures) ∙ not-true _ (c .if1 .taken)
 
 -- what the two cells say of the window
-abbrev spoils : tie.Start → Bool
-spoils o =
+abbrev claimed : tie.Start → Bool
+claimed o =
     let a = o .args in
     trueMismatch (a .alike-in-pattern) (patternAt (now (a .pattern))) (windowOf (now (a .text)) (a .v)) (a .v .height) (a .v .width)
     (a .body .earlier .row) (a .body .earlier .column) (a .body .later .row) (a .body .later .column)
 
-spoiled : (c : tie.Else2) → spoils (c .before .before .before .before .before .before .before) ≡ true
-spoiled c = sym (c .before .true-mismatch .ensures) ∙ not-false _ (c .if2 .left)
+true-there : (c : tie.Else2) → claimed (c .before .before .before .before .before .before .before) ≡ true
+true-there c = sym (c .before .true-mismatch .ensures) ∙ not-false _ (c .if2 .left)
 
-unspoiled : (c : tie.Then2) → spoils (c .before .before .before .before .before .before .before) ≡ false
-unspoiled c = sym (c .before .true-mismatch .ensures) ∙ not-true _ (c .if2 .taken)
+false-there : (c : tie.Then2) → claimed (c .before .before .before .before .before .before .before) ≡ false
+false-there c = sym (c .before .true-mismatch .ensures) ∙ not-true _ (c .if2 .taken)
 
 is-due-requires : tie.Need-is-due-requires
 is-due-requires c κs = search needs
@@ -52,15 +53,15 @@ returns-2 : tie.Need-returns-2
 returns-2 c =
     let o = c .before .before .before .before .before .before .before in
     let a = o .args in
-    not-spoiled (a .v) (a .body) (now (a .listing)) (a .at) (o .pre .2) (now (a .text)) (now (a .pattern)) (a .alike-in-pattern) (a .next)
-    (due (c .before .before)) (unspoiled c)
+    mismatch-fails (a .v) (a .body) (now (a .listing)) (a .at) (o .pre .2) (now (a .text)) (now (a .pattern)) (a .alike-in-pattern) (a .next)
+    (due (c .before .before)) (false-there c)
 
 returns-3 : tie.Need-returns-3
 returns-3 c =
     let o = c .before .before .before .before .before .before .before in
     let a = o .args in
-    is-spoiled (a .v) (a .body) (now (a .listing)) (a .at) (o .pre .2) (now (a .text)) (now (a .pattern)) (a .alike-in-pattern) (a .next)
-    (due (c .before .before)) (spoiled c)
+    mismatch-holds (a .v) (a .body) (now (a .listing)) (a .at) (o .pre .2) (now (a .text)) (now (a .pattern)) (a .alike-in-pattern) (a .next)
+    (due (c .before .before)) (true-there c)
 
 pub refused-window-spec : {M : Type 1} → statement M
 refused-window-spec =

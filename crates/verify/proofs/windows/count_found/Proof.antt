@@ -3,7 +3,7 @@
 use mathlib.Core.Path.{sym}
 use borrow.Author.Needs.{needs}
 use borrow.Author.Tests.{eq-eqb, ne-eqb}
-use Rattle.theory.specs.Test.{pick-true, pick-false}
+use Rattle.theory.specs.Test.Laws.{pick-true, pick-false}
 use Rattle.verify.proofs.windows.count_found.Statement.{statement}
 use Rattle.verify.proofs.windows.count_found.Tie as tie
 

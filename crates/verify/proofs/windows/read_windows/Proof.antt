@@ -1,12 +1,14 @@
--- `windows::read_windows` meets its contract: it is the walk, with the symbols that `list_symbols` lists and with columns that are still empty.
+-- `windows::read_windows` meets its contract: it is the walk, with the symbols that `list_symbols` lists and with
+-- columns that are still empty.
 -- Assumes nothing.
 use mathlib.Core.Path.{sym, _∙_}
 use native.Mathlib.Omega.{arith}
 use lib.Seq.{length-take-le}
 use borrow.Author.Needs.{needs}
-use Rattle.theory.specs.Older.{older-zeros, zeros-long}
-use Rattle.shapes.specs.Shapes.{product-le}
+use Rattle.theory.specs.Older.Laws.{older-zeros, zeros-long}
+use Rattle.sets.specs.Symbols.Listed.{listed-take, listed-inside}
 use Rattle.sets.specs.Symbols.Patterns.{members-symbol-set}
+use Rattle.verify.specs.Windows.{above-none}
 use Rattle.verify.proofs.windows.read_windows.Statement.{statement}
 use Rattle.verify.proofs.windows.read_windows.Tie as tie
 
@@ -19,35 +21,50 @@ no-symbols-requires c κs = search needs
 list-symbols-requires : tie.Need-list-symbols-requires
 list-symbols-requires c κs = zeros-long _ (c .before .no-symbols .ensures)
 
-row-period-requires : tie.Need-row-period-requires
-row-period-requires c κs =
-    let o = c .before .before .before .before .before .before .before in
-    let sides = o .pre .0 .sized .sides in
-    (o .pre .1, sides .height-good .positive, omega (arith, o .pre .1, product-le _ _ 255 255 (sides .height-good .small) (sides .width-good .small)))
-
 no-entries-requires : tie.Need-no-entries-requires
 no-entries-requires c κs = search needs
 
 no-entries-requires-2 : tie.Need-no-entries-requires-2
 no-entries-requires-2 c κs = search needs
 
+no-positions-requires : tie.Need-no-positions-requires
+no-positions-requires c κs = search needs
+
+no-positions-requires-2 : tie.Need-no-positions-requires-2
+no-positions-requires-2 c κs = search needs
+
+no-positions-requires-3 : tie.Need-no-positions-requires-3
+no-positions-requires-3 c κs = search needs
+
 array-share-prefix-listed : tie.Need-array-share-prefix-listed
-array-share-prefix-listed c = let e = c .before .before .before .list-symbols .ensures in omega (arith, e .1 .0, e .1 .1)
+array-share-prefix-listed c =
+    let d = c .before .before .before .before .before in
+    let e = d .list-symbols .ensures in
+    listed-inside _ _ _ _ (e .0) (e .1) (zeros-long _ (d .before .before .no-symbols .ensures))
 
 slice-aggregate-walk-windows : tie.Need-slice-aggregate-walk-windows
 slice-aggregate-walk-windows c = sym (length-take-le _ _ (array-share-prefix-listed (c .before)))
 
 walk-windows-requires : tie.Need-walk-windows-requires
 walk-windows-requires c κs =
-    let o = c .before .before .before .before .before .before .before .before .before .before .before .before .before in
-    let d = c .before .before .before .before .before .before in
-    let e = c .before .before .before .before .before .row-period .ensures in (
+    let o = c .before .before .before .before .before .before .before .before .before .before .before .before .before .before .before .before .before .before in
+    let d = c .before .before .before .before .before .before .before .before .before .before .before in
+    let sides = o .pre .0 .sized .sides in (
       o .pre .0,
       o .pre .1,
-      d .list-symbols .ensures .0 ∙ members-symbol-set _ _ (d .before .before .before .symbols-of .ensures),
-      zeros-long _ (c .before .before .before .before .no-entries .ensures),
-      older-zeros _ _ (omega arith) (c .before .before .before .no-entries2 .ensures),
-      record { some = e .1; repeats = e .0 },
+      listed-take _ _ _ _ (d .list-symbols .ensures .0) (d .list-symbols .ensures .1)
+          ∙ members-symbol-set _ _ (d .before .before .before .symbols-of .ensures),
+      zeros-long _ (c .before .before .before .before .before .before .before .before .before .before .no-entries .ensures),
+      older-zeros _ _ (omega arith) (c .before .before .before .before .before .before .before .before .before .no-entries2 .ensures),
+      above-none _ _ _ _ _ _ _ _
+          (record {
+            cells = o .pre .1;
+            tall = sides .height-good .positive;
+            broad = sides .width-good .positive;
+            height-le = sides .height-good .small;
+            width-le = sides .width-good .small;
+          })
+          (sides .columns-good .small) (c .before .before .before .before .before .before .before .before .no-positions .ensures) (c .before .before .before .before .before .before .before .no-positions2 .ensures) (c .before .before .before .before .before .before .no-positions3 .ensures),
     )
 
 returns : tie.Need-returns
@@ -60,9 +77,11 @@ read-windows-spec =
     symbols-of-requires
     no-symbols-requires
     list-symbols-requires
-    row-period-requires
     no-entries-requires
     no-entries-requires-2
+    no-positions-requires
+    no-positions-requires-2
+    no-positions-requires-3
     array-share-prefix-listed
     slice-aggregate-walk-windows
     walk-windows-requires

@@ -1,8 +1,9 @@
--- `reader::Cursor::read` meets its contract: at or past the end it answers 15 (`reads-spent`); else the byte at the cursor is one of the five kinds,
--- of which the callees ensure what is asked, or none of them (`size-unknown`, `reads-unknown`).
+-- `reader::Cursor::read` meets its contract: at or past the end it answers 15 (`reads-spent`); else the byte at the
+-- cursor is one of the five kinds, of which the callees ensure what is asked, or none of them (`size-unknown`,
+-- `reads-unknown`).
 -- Assumes nothing.
 use mathlib.Core.Path.{refl}
-use Rattle.listing.specs.Reading.{reads-spent, reads-unknown, size-unknown}
+use Rattle.listing.specs.Reader.Reading.{reads-spent, reads-unknown, size-unknown}
 use borrow.Author.Needs.{needs}
 use Rattle.listing.proofs.reader.Cursor.read.Statement.{statement}
 use Rattle.listing.proofs.reader.Cursor.read.Tie as tie

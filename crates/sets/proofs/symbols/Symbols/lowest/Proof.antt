@@ -1,14 +1,14 @@
--- `sets::symbols::Symbols::lowest` meets its contract: the lowest symbol stands in the first word that is not 0, at its lowest bit. Where all four
--- are 0, the last word's 64 zeros make 256.
+-- `sets::symbols::Symbols::lowest` meets its contract: the lowest symbol stands in the first word that is not 0, at its
+-- lowest bit. Where all four are 0, the last word's 64 zeros make 256.
 -- Assumes nothing.
 use Prim.Native.Nat.{_≤_}
 use native.Mathlib.Omega.{arith}
 use lib.Count.{trailingZeros, trailing-le}
-use Rattle.sets.specs.Symbols.Blocks.{Small, lowest-0, lowest-1, lowest-2, lowest-3}
+use Rattle.sets.specs.Symbols.Blocks.{SmallWords, lowest-0, lowest-1, lowest-2, lowest-3}
 use Rattle.sets.proofs.symbols.Symbols.lowest.Statement.{statement}
 use Rattle.sets.proofs.symbols.Symbols.lowest.Tie as tie
 
-small : (c : tie.Start) → Small (c .args .self)
+small : (c : tie.Start) → SmallWords (c .args .self)
 small c = omega arith
 
 -- a word has at most 64 trailing zeros, so no sum is too large

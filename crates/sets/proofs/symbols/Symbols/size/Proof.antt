@@ -1,12 +1,12 @@
--- `sets::symbols::Symbols::size` meets its contract: the ones of word i are the symbols 64 i to 64 i + 63 of the set, and a word has at most 64, so
--- no sum is too large.
+-- `sets::symbols::Symbols::size` meets its contract: the ones of word i are the symbols 64 i to 64 i + 63 of the set,
+-- and a word has at most 64, so no sum is too large.
 -- Assumes nothing.
 use native.Mathlib.Omega.{arith}
-use Rattle.sets.specs.Symbols.Blocks.{Small, ones-small, size-words}
+use Rattle.sets.specs.Symbols.Blocks.{SmallWords, ones-small, size-words}
 use Rattle.sets.proofs.symbols.Symbols.size.Statement.{statement}
 use Rattle.sets.proofs.symbols.Symbols.size.Tie as tie
 
-small : (c : tie.Start) → Small (c .args .self)
+small : (c : tie.Start) → SmallWords (c .args .self)
 small c = omega arith
 
 add-result : tie.Need-add-result

@@ -1,13 +1,14 @@
--- `sets::symbols::Symbols::with` meets its contract: word v / 64 has bit v % 64 set, which is symbol v, and the other words hold other symbols.
+-- `sets::symbols::Symbols::with` meets its contract: word v / 64 has bit v % 64 set, which is symbol v, and the other
+-- words hold other symbols.
 -- Assumes nothing.
 use mathlib.Core.Bool.{true}
 use native.Mathlib.Omega.{arith}
 use borrow.Author.Needs.{needs}
-use Rattle.sets.specs.Symbols.Blocks.{Small, changed-0, changed-1, changed-2, changed-3}
+use Rattle.sets.specs.Symbols.Blocks.{SmallWords, changed-0, changed-1, changed-2, changed-3}
 use Rattle.sets.proofs.symbols.Symbols.with.Statement.{statement}
 use Rattle.sets.proofs.symbols.Symbols.with.Tie as tie
 
-small : (c : tie.Start) → Small (c .args .self)
+small : (c : tie.Start) → SmallWords (c .args .self)
 small c = omega arith
 
 set-bit-requires : tie.Need-set-bit-requires

@@ -1,13 +1,14 @@
--- `sets::symbols::Symbols::without` meets its contract: word v / 64 loses bit v % 64, which is symbol v, and the other words hold other symbols.
+-- `sets::symbols::Symbols::without` meets its contract: word v / 64 loses bit v % 64, which is symbol v, and the other
+-- words hold other symbols.
 -- Assumes nothing.
 use mathlib.Core.Bool.{false}
 use native.Mathlib.Omega.{arith}
 use borrow.Author.Needs.{needs}
-use Rattle.sets.specs.Symbols.Blocks.{Small, changed-0, changed-1, changed-2, changed-3}
+use Rattle.sets.specs.Symbols.Blocks.{SmallWords, changed-0, changed-1, changed-2, changed-3}
 use Rattle.sets.proofs.symbols.Symbols.without.Statement.{statement}
 use Rattle.sets.proofs.symbols.Symbols.without.Tie as tie
 
-small : (c : tie.Start) → Small (c .args .self)
+small : (c : tie.Start) → SmallWords (c .args .self)
 small c = omega arith
 
 clear-bit-requires : tie.Need-clear-bit-requires

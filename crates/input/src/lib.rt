@@ -1,0 +1,2 @@
+// The program's input: by what it is refused before it is searched.
+pub mod input;

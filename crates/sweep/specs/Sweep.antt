@@ -1,0 +1,106 @@
+-- The sweep: the first end of every window, and the earlier position of the mismatch that ends there, in a time that is
+-- linear in the strips.
+--
+-- Down a strip each window is asked with what the last one that was compared says of it, by the three laws of
+-- crates/prefixes. The step and the two cells: symbol by symbol, with the first places of the pattern's symbols and the
+-- last places of the strip's, `reach` finds how far a window agrees, and the mismatch that ends there. Inheritance: the
+-- window k rows below the last one compared has the pattern's own first end, of its rows from k on against itself,
+-- where that lies in what agreed; else it agrees as far as that one did, and is compared from there on. So each cell of
+-- a strip is compared about once. The pattern's own ends are the same run, with the pattern as its text. Contracts say
+-- what is found, and nothing of the time.
+--
+-- What the code ensures (src/runs.rt). `all_ends`: in the two buffers entry k is `endOf` and `earlierOf` of window k,
+-- for each window, row by row; the rest of the buffers is as it was. `strip_ends`: the same entries for the windows at
+-- one column, one below the other, and all else as it was. `window-answer` (Runs.antt): the two numbers give the answer
+-- of theory's `answerOf` for the window, so a verdict and both cells need nothing besides.
+-- Assumes nothing.
+pub mod Steps
+pub mod Own
+pub mod Runs
+use mathlib.Core.Path.{_≡_}
+use mathlib.Core.List.{List}
+use Prim.Native.Nat.{ℕ, _+_, _-_, _*_, _≤_, _<_}
+use lib.ListN.{length, getD}
+use Rattle.grid.specs.Strips.{StripOf, stripSymbols}
+use Rattle.grid.specs.declared.strips.Strip.{Strip}
+use Rattle.prefixes.specs.Prefixes.{suffix, EndIs, firstEarlier}
+use Rattle.prefixes.specs.State.{FirstPlaces, Swept}
+use Rattle.sweep.specs.declared.steps.Step.{Step}
+use lib.Dec.{ltb}
+use Rattle.theory.specs.Test.{pick}
+use Rattle.theory.specs.Match.{firstEnd}
+use Rattle.shapes.specs.Shapes.{ShapeOf, across, down}
+use Rattle.shapes.specs.Windows.{windowAt, cornerRow, cornerColumn}
+use Rattle.shapes.specs.declared.shapes.Shape.{Shape}
+
+-- the first end of window k
+unfoldable pub endOf : List ℕ → Shape → List ℕ → ℕ → ℕ
+endOf text s pattern k =
+    firstEnd (λ p. getD pattern p 0) (windowAt text (s .columns) (cornerRow (across s) k) (cornerColumn (across s) k)
+    (s .width)) (s .height * s .width)
+
+-- and the earlier position of the mismatch that ends there, or 0 where none does
+unfoldable pub earlierOf : List ℕ → Shape → List ℕ → ℕ → ℕ
+earlierOf text s pattern k =
+    firstEarlier (λ p. getD pattern p 0)
+    (windowAt text (s .columns) (cornerRow (across s) k) (cornerColumn (across s) k) (s .width)) (s .height * s .width)
+
+-- What the inner functions' contracts cite.
+
+-- a run stands before the window at row top: the last window compared begins at row, and agrees up to place reached
+pub record RunAt (text : List ℕ) (s : Strip) (pattern last : List ℕ) (row reached top height : ℕ) : Type 0 where
+  pub past : row ≤ top
+  pub fits : reached ≤ row * s .width + length pattern
+  pub within : reached ≤ (top + height) * s .width
+  pub swept : Swept (λ k. getD pattern k 0) (stripSymbols text s) (row * s .width) reached last
+
+-- what the pattern's own window d places down says
+abbrev pub SelfIs : List ℕ → ℕ → ℕ → ℕ → Type 0
+SelfIs pattern d end earlier =
+    EndIs (λ k. getD pattern k 0) (suffix (λ k. getD pattern k 0) d) (length pattern - d) end earlier
+
+-- what is asked of the next window
+pub record NextAt (text : List ℕ) (s : Strip) (pattern first last selves earlies : List ℕ)
+    (row reached top height : ℕ) : Type 0 where
+  pub strip : StripOf s (length text)
+  pub down : top + height ≤ s .rows
+  pub cells : height * s .width ≤ length pattern
+  pub places : FirstPlaces (λ k. getD pattern k 0) (length pattern) first
+  pub run : RunAt text s pattern last row reached top height
+  pub selves-long : length selves ≡ 256
+  pub earlies-long : length earlies ≡ 256
+  pub self : top * s .width < reached → SelfIs pattern ((top - row) * s .width) (getD selves (top - row) 0)
+      (getD earlies (top - row) 0)
+
+-- its first end, and where the run stands then
+pub record NextIs (text : List ℕ) (s : Strip) (pattern : List ℕ) (row top height : ℕ) (r : Step) (last : List ℕ)
+    : Type 0 where
+  pub since : row ≤ r .row
+  pub run : RunAt text s pattern last (r .row) (r .reached) top height
+  pub end : EndIs (λ k. getD pattern k 0) (suffix (stripSymbols text s) (top * s .width)) (height * s .width) (r .end)
+      (r .earlier)
+
+-- the sides of a pattern
+pub record SidesOf (pattern : List ℕ) (height width : ℕ) : Type 0 where
+  pub cells : length pattern ≡ height * width
+  pub tall : 1 ≤ height
+  pub broad : 1 ≤ width
+  pub height-le : height ≤ 255
+  pub width-le : width ≤ 255
+
+-- the first ends and earlier positions of the pattern's own windows from row 0 to before row n
+pub record Owns (pattern : List ℕ) (width n : ℕ) (selves earlies : List ℕ) : Type 0 where
+  pub selves-long : length selves ≡ 256
+  pub earlies-long : length earlies ≡ 256
+  pub each : (k : ℕ) → k < n → SelfIs pattern (k * width) (getD selves k 0) (getD earlies k 0)
+
+-- how many of them a strip of so many windows asks for
+unfoldable pub ownRows : ℕ → ℕ → ℕ
+ownRows height windows = pick (ltb windows height) windows height
+
+-- a text, a pattern of that size, and what the pattern says by itself
+pub record SweepAt (text : List ℕ) (s : Shape) (pattern first selves earlies : List ℕ) : Type 0 where
+  pub shape : ShapeOf s (length text)
+  pub cells : length pattern ≡ s .height * s .width
+  pub places : FirstPlaces (λ k. getD pattern k 0) (length pattern) first
+  pub owns : Owns pattern (s .width) (ownRows (s .height) (down s)) selves earlies

@@ -1,0 +1,6 @@
+// The listing from the flags: the records of every window in their order, and the closing. It is a step of the search,
+// and no operation of its own.
+mod entries;
+mod found;
+mod strips;
+pub mod writing;

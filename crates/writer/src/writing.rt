@@ -1,0 +1,79 @@
+// The listing from the flags: the records of every window in their order, and the closing.
+ghost use mathlib.Core.Path.{_≡_};
+ghost use Prim.Native.Nat.{_≤_};
+ghost use lib.ListN.{length};
+ghost use Rattle.shapes.specs.Questions.{asked};
+ghost use Rattle.shapes.specs.Said.{overFront};
+ghost use Rattle.theory.specs.Written.{written};
+ghost use Rattle.writer.specs.Listing.{searchListing, foundIn, refusedIn};
+ghost use Rattle.writer.specs.Listing.Windows.{Flagged, SymbolPlaces, windowBytes};
+use crate::found::write_rows;
+use crate::strips::write_strips;
+use listing::records::Record;
+use listing::records::write_record;
+use matching::places::places_of;
+use reach::places::no_positions;
+use sets::symbols::Symbols;
+use sets::symbols::symbols_of;
+use shapes::shapes::Shape;
+use shapes::tables::no_places;
+
+// The records of all windows, from the listing's first byte on; the place after them. First those of the found ones in
+// their order, then those of the refused ones strip by strip.
+fn write_windows(
+    text: &[u8],
+    pattern: &[u8],
+    s: Shape,
+    symbols: Symbols,
+    places: &[u16],
+    flags: &[u8],
+    listing: &mut [u8],
+) -> usize
+    requires { ⌜
+        Flagged (now text) (now pattern) s (now flags) × SymbolPlaces (now pattern) symbols (now places)
+        × (length (windowBytes (now text) (now pattern) s) ≤ length (now listing)) ⌝ }
+    ensures { λ r. ⌜ r ≡ length (windowBytes (now (text .entry)) (now (pattern .entry)) s) ⌝ }
+    ensures { λ r. ⌜
+        now (listing .exit) ≡ written (now (listing .entry)) 0
+        (windowBytes (now (text .entry)) (now (pattern .entry)) s) ⌝ }
+{
+    let mut heads = no_positions();
+    let end = write_rows(
+        text,
+        pattern,
+        s,
+        symbols,
+        places,
+        flags,
+        &mut heads,
+        listing,
+    );
+    write_strips(text, pattern, s, flags, &mut heads, listing);
+    end
+}
+
+// The second step of the search: the listing from the flags, where there is room for it.
+pub fn write_listing(
+    text: &[u8],
+    pattern: &[u8],
+    s: Shape,
+    found: u16,
+    refused: u16,
+    flags: &[u8],
+    listing: &mut [u8],
+)
+    requires { ⌜
+        Flagged (now text) (now pattern) s (now flags) × (found ≡ foundIn (asked (now text) (now pattern) s))
+        × (refused ≡ refusedIn (asked (now text) (now pattern) s))
+        × (length (searchListing (asked (now text) (now pattern) s)) ≤ length (now listing)) ⌝ }
+    ensures { λ r. ⌜
+        now (listing .exit) ≡ overFront (searchListing (asked (now (text .entry)) (now (pattern .entry)) s))
+        (now (listing .entry)) ⌝ }
+{
+    let symbols = symbols_of(pattern);
+    let mut places = no_places();
+    places_of(pattern, &mut places);
+    let at = write_windows(text, pattern, s, symbols, &places, flags, listing);
+    let closing = Record::Closing { found, refused };
+    write_record(listing, at, closing);
+}
