@@ -1,17 +1,43 @@
 /*
- * The proved operations for C and C++, x86-64. Link target/staticlib/libexports.a, which `rt staticlib exports` writes.
+ * The proved operations for C and C++, x86-64. At the repository's top, with program.c for your own file:
  *
- * Terms, with document 01's words in brackets. A text (sheet) is rows by columns symbols (yarn numbers), one byte each, row by row. A
- * pattern (motif) is height by width symbols, laid out likewise. A window is the height by width part of a text at a corner (row,
- * column); rows and columns count from 0. A bijection (renaming) pairs pattern symbols with text symbols, one to one. A mismatch (clash)
- * is two cells that are alike on one side only, in the pattern or in the window. The listing has every window once, found or refused.
+ *     rt staticlib exports
+ *     cc -Iinclude program.c target/staticlib/libexports.a
  *
- * Nothing is asked of the values: an input that makes no sense is refused by its number. Of pointers C asks what it always does: one that
- * stands with a length points to as many entries, one that is declared [N] to N of them; none is NULL, also where the length is 0; what
- * is not const overlaps nothing else that is passed. No function allocates, keeps anything between calls, or touches more than it is
- * lent, so calls on different buffers may run at the same time.
+ * The first proves the library and writes it. It needs memcpy and memset of the C library, which cc links by itself,
+ * and nothing else.
  *
- * A function that can refuse returns COLOURWAY_ACCEPTED or the number of the refusal. A refusal changes nothing but where it is said.
+ * Terms, with document 01's words in brackets. A text (sheet) is rows by columns symbols (yarn numbers), one byte each,
+ * row by row. A pattern (motif) is height by width symbols, laid out likewise. A window is the height by width part of
+ * a text at a corner (row, column); rows and columns count from 0. A bijection (renaming) pairs pattern symbols with
+ * text symbols, one to one. A mismatch (clash) is two cells that are alike on one side only, in the pattern or in the
+ * window. The listing has every window once, found or refused.
+ *
+ * Nothing is asked of the values: an input that makes no sense is refused by its number. Of pointers C asks what it
+ * always does: one that stands with a length points to as many entries, one that is declared [N] to N of them; none is
+ * NULL, also where the length is 0; what is not const overlaps nothing else that is passed: to compose a bijection with
+ * itself, pass a copy of its columns as the other one. No function allocates, keeps anything between calls, or touches
+ * more than it is lent, so calls on different buffers may run at the same time.
+ *
+ * A function that can refuse returns COLOURWAY_ACCEPTED or the number of the refusal. A refusal writes what document 01
+ * says that it returns, where that is said below, and changes nothing else.
+ *
+ * Stack. From its caller's frame down a call touches, at most:
+ *
+ *     colourway_search, colourway_check                       14 KiB
+ *     colourway_one_window                                     7 KiB
+ *     colourway_bijection_compose                              6 KiB
+ *     colourway_bijection_pair                                 4 KiB
+ *     colourway_bijection_invert                               3 KiB
+ *     colourway_distinct_counts                                2 KiB
+ *     colourway_strip_links                                    1 KiB
+ *     all others                                             256 bytes
+ *
+ * The search takes about that much whatever the size of its text, and also where it refuses. The figures are measured
+ * and not proved: the lowest byte touched of a painted stack, over texts and patterns from 1 by 1 to 255 by 255 and
+ * over refused calls, rounded up. A test runs every operation in a thread of 64 KiB. What memcpy and memset take is in
+ * them, but not the 4 KiB that the dynamic linker takes once, at the first call of either, in a program that binds
+ * lazily (-Wl,-z,now spares them).
  *
  * The first draft of document 01, in full:
  *
@@ -23,7 +49,8 @@
  *         uint16_t links[4], counts[2], fields[7];
  *         uint8_t flags[2], listing[64];
  *         size_t totals[3], at[1] = {0};
- *         uint8_t why = colourway_search(text, 6, 2, 3, pattern, 4, 2, 2, links, 4, counts, 2, flags, 2, listing, 64, totals);
+ *         uint8_t why = colourway_search(text, 6, 2, 3, pattern, 4, 2, 2,
+ *             links, 4, counts, 2, flags, 2, listing, 64, totals);
  *         if (why != COLOURWAY_ACCEPTED) {
  *             printf("refused %d\n", why);
  *             return 1;
@@ -46,7 +73,10 @@
 extern "C" {
 #endif
 
-/* Document 01's refusals by number. Each is given when its condition holds and no earlier one in the order of its function does. */
+/*
+ * Document 01's refusals by number. Each is given when its condition holds and no earlier one in the order of its
+ * function does.
+ */
 enum colourway_refusal {
     /* Nothing is refused. */
     COLOURWAY_ACCEPTED = 0,
@@ -60,8 +90,8 @@ enum colourway_refusal {
     COLOURWAY_TOO_LARGE = 4,
     /* The corner, or the strip's column, is beyond the last at which the window or strip fits. */
     COLOURWAY_CORNER_OUTSIDE = 5,
-    /* The listing has the wrong form: an unknown kind, a cut record; for the check also a kind that is not due, a missing record, or bytes
-       left over. */
+    /* The listing has the wrong form: an unknown kind, a cut record; for the check also a kind that is not due, a
+       missing record, or bytes left over. */
     COLOURWAY_LISTING_FORM = 6,
     /* The listing has a record of right form that states what is not so. */
     COLOURWAY_LISTING_FALSE = 7,
@@ -84,9 +114,9 @@ enum colourway_refusal {
 };
 
 /*
- * The links of the strip of that width whose first column is left: for each of its rows x width positions, row by row, the distance back
- * to the nearest earlier position of the strip with the same symbol, or 0. They go to the first rows x width entries of links; the rest
- * stay. Refused by 2, 3, 4, 5, 9, in this order.
+ * The links of the strip of that width whose first column is left: for each of its rows x width positions, row by row,
+ * the distance back to the nearest earlier position of the strip with the same symbol, or 0. They go to the first rows
+ * x width entries of links; the rest stay. Refused by 2, 3, 4, 5, 9, in this order.
  */
 uint8_t colourway_strip_links(
     const uint8_t *text, size_t text_length,
@@ -95,9 +125,9 @@ uint8_t colourway_strip_links(
     uint16_t *links, size_t links_length);
 
 /*
- * The number of different symbols in each window of height by width cells (its tally), row by row of corners. They go to the first entries
- * of counts, one a window, of which there are (rows - height + 1) x (columns - width + 1); the rest stay. Refused by 2, 3, 4, 10, in this
- * order.
+ * The number of different symbols in each window of height by width cells (its tally), row by row of corners. They go
+ * to the first entries of counts, one a window, of which there are (rows - height + 1) x (columns - width + 1); the
+ * rest stay. Refused by 2, 3, 4, 10, in this order.
  */
 uint8_t colourway_distinct_counts(
     const uint8_t *text, size_t text_length,
@@ -106,8 +136,8 @@ uint8_t colourway_distinct_counts(
     uint16_t *counts, size_t counts_length);
 
 /*
- * The symbol in cell (i, j) of the window at corner (row, column) of a text with rows of row_width cells, or 256 where the cell lies past
- * the text's end. A column beyond the row width leads into the next row. Never refused.
+ * The symbol in cell (i, j) of the window at corner (row, column) of a text with rows of row_width cells, or 256 where
+ * the cell lies past the text's end. A column beyond the row width leads into the next row. Never refused.
  */
 uint16_t colourway_window_cell(
     const uint8_t *text, size_t text_length,
@@ -115,7 +145,10 @@ uint16_t colourway_window_cell(
     uint8_t row, uint8_t column,
     uint8_t i, uint8_t j);
 
-/* The set of a pattern's symbols, as four words: bit k of word i is 1 where symbol 64 i + k is in the set. Never refused. */
+/*
+ * The set of a pattern's symbols, as four words: bit k of word i is 1 where symbol 64 i + k is in the set. Never
+ * refused.
+ */
 void colourway_symbols(
     const uint8_t *pattern, size_t pattern_length,
     uint64_t words[4]);
@@ -130,14 +163,17 @@ uint32_t colourway_symbols_lowest(const uint64_t words[4]);
 void colourway_symbols_without(uint64_t words[4], uint8_t v);
 
 /*
- * A bijection is two columns: entry a of forward is the image (mate) of pattern symbol a, entry c of backward the preimage of text symbol
- * c, and 256 stands for none. Refused, an operation leaves the columns as they were.
+ * A bijection is two columns: entry a of forward is the image (mate) of pattern symbol a, entry c of backward the
+ * preimage of text symbol c, and 256 stands for none. Refused, an operation leaves the columns as they were.
  */
 
 /* Makes the columns those of the bijection with no pair, whatever they held. Never refused. */
 void colourway_bijection_empty(uint16_t forward[256], uint16_t backward[256]);
 
-/* Pairs (mates) the pattern symbol a with the text symbol c. The same pair again changes nothing. Refused by 14, 12, 13, in this order. */
+/*
+ * Pairs (mates) the pattern symbol a with the text symbol c. The same pair again changes nothing. Refused by 14, 12,
+ * 13, in this order.
+ */
 uint8_t colourway_bijection_pair(
     uint16_t forward[256], uint16_t backward[256],
     uint8_t a, uint8_t c);
@@ -146,18 +182,20 @@ uint8_t colourway_bijection_pair(
 uint8_t colourway_bijection_invert(uint16_t forward[256], uint16_t backward[256]);
 
 /*
- * First the bijection in forward and backward, then the other one: a is paired with c wherever the first gives b at a and the other c at
- * b. The answer takes the place of the first. Refused by 14 if either earns it.
+ * First the bijection in forward and backward, then the other one: a is paired with c wherever the first gives b at a
+ * and the other c at b. The answer takes the place of the first. Refused by 14 if either earns it. The other columns
+ * may not be those of the first: pass a copy to compose a bijection with itself.
  */
 uint8_t colourway_bijection_compose(
     uint16_t forward[256], uint16_t backward[256],
     const uint16_t other_forward[256], const uint16_t other_backward[256]);
 
 /*
- * Whether the pattern matches the window of its size at corner (row, column). A match leaves in forward and backward the bijection that
- * pairs just the pattern's symbols, and three zeros in mismatch. Otherwise mismatch has 3 (alike in the pattern only) or 4 (alike in the
- * window only), the earlier cell and the later one, each by its position in the pattern, row by row; the columns are those of the
- * bijection with no pair. Refused by 2, 3, 4, 5, in this order.
+ * Whether the pattern matches the window of its size at corner (row, column). A match leaves in forward and backward
+ * the bijection that pairs just the pattern's symbols, and three zeros in mismatch. Otherwise mismatch has 3 (alike in
+ * the pattern only) or 4 (alike in the window only), the earlier cell and the later one, each by its position in the
+ * pattern, row by row; the columns are those of the bijection with no pair. Refused by 2, 3, 4, 5, in this order, which
+ * leave columns and mismatch as they were.
  */
 uint8_t colourway_one_window(
     const uint8_t *text, size_t text_length,
@@ -169,15 +207,17 @@ uint8_t colourway_one_window(
     size_t mismatch[3]);
 
 /*
- * Compares the pattern with every window of the text and lists the answers, row by row of corners. Totals are found, refused, and the
- * listing's length: with d different symbols in the pattern, found x (3 + 3 d) + refused x 7 + 5 bytes.
+ * Compares the pattern with every window of the text and lists the answers, row by row of corners. Totals are found,
+ * refused, and the listing's length: with d different symbols in the pattern, found x (3 + 3 d) + refused x 7 + 5
+ * bytes.
  *
- * Lent are links, at least rows x width entries, in which it leaves zeros; counts and flags (marks), at least an entry a window, of which
- * there are (rows - height + 1) x (columns - width + 1): counts are as colourway_distinct_counts leaves them, a flag is 1 for found and 0
- * for refused; and the listing. What lies beyond stays.
+ * Lent are links, at least rows x width entries, in which it leaves zeros; counts and flags (marks), at least an entry
+ * a window, of which there are (rows - height + 1) x (columns - width + 1): counts are as colourway_distinct_counts
+ * leaves them, a flag is 1 for found and 0 for refused; and the listing. What lies beyond stays.
  *
- * Refused by 2, 3, 4, 9, 10, 11, in this order. 11 has two zeros and the length needed in totals, links, counts and flags as after an
- * accepted search, and the listing buffer untouched: call it with no room for the listing to learn how much it needs.
+ * Refused by 2, 3, 4, 9, 10, 11, in this order. 11 writes the length needed to totals[2] and leaves totals[0] and
+ * totals[1]; links, counts and flags are as after an accepted search, and the listing buffer is untouched: call it with
+ * no room for the listing to learn how much it needs. The others leave everything.
  */
 uint8_t colourway_search(
     const uint8_t *text, size_t text_length,
@@ -191,7 +231,8 @@ uint8_t colourway_search(
     size_t totals[3]);
 
 /*
- * The record at the place at of a listing. Fields get its kind and its numbers, then zeros; next gets the place after it:
+ * The record at the place at of a listing. Fields get its kind and its numbers, then zeros; next gets the place after
+ * it:
  *
  *     1 found       window row, column
  *     2 pair        pattern symbol, text symbol
@@ -199,7 +240,7 @@ uint8_t colourway_search(
  *     4 mismatch    alike in the window only: as 3
  *     5 closing     found, refused
  *
- * Refused by 15, 6, in this order: the fields stay, and next gets at.
+ * Refused by 15, 6, in this order, which return the cursor's place: next gets at, and the fields stay.
  */
 uint8_t colourway_read(
     const uint8_t *listing, size_t listing_length,
@@ -208,11 +249,12 @@ uint8_t colourway_read(
     size_t next[1]);
 
 /*
- * Whether a listing, whoever wrote it, is one of this text and this pattern. Totals are found and refused. Any true mismatch will do. The
- * listing is all of listing_length bytes: after a search, pass the length that it returned.
+ * Whether a listing, whoever wrote it, is one of this text and this pattern. Totals are found and refused. Any true
+ * mismatch will do. The listing is all of listing_length bytes: after a search, pass the length that it returned.
  *
- * Refused by 2, 3, 4, in this order, and then by 6 or 7, whichever the first bad record earns. 6 and 7 have in totals the place of the
- * first byte of that record, or the listing's length where a record is missing, and a zero.
+ * Refused by 2, 3, 4, in this order, and then by 6 or 7, whichever the first bad record earns. 6 and 7 write to
+ * totals[0] the place of the first byte of that record, or the listing's length where a record is missing, and leave
+ * totals[1]. The others leave both.
  */
 uint8_t colourway_check(
     const uint8_t *text, size_t text_length,

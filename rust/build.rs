@@ -10,7 +10,8 @@ fn main() {
     println!("cargo:rerun-if-changed={}", library.display());
     if !library.is_file() {
         eprintln!("There is no {}.", library.display());
-        eprintln!("Run `rt staticlib exports` at the repository's top first: it proves the crate and writes that file.");
+        eprintln!("Run `rt staticlib exports` at the repository's top first.");
+        eprintln!("It proves the crate and writes that file.");
         std::process::exit(1);
     }
     println!("cargo:rustc-link-search=native={}", folder.display());

@@ -5,11 +5,13 @@ use crate::{foreign, outcome, Refusal};
 /// What stands in a column where a symbol has no image or no preimage.
 pub const NONE: u16 = 256;
 
-/// A bijection between some pattern symbols and as many text symbols, held as two columns: entry `a` of the forward one is the image
-/// of pattern symbol `a`, entry `c` of the backward one the preimage of text symbol `c`, and [`NONE`] stands for none.
+/// A bijection between some pattern symbols and as many text symbols, held as two columns: entry `a` of the forward one
+/// is the image of pattern symbol `a`, entry `c` of the backward one the preimage of text symbol `c`, and [`NONE`]
+/// stands for none.
 ///
-/// The columns agree when the forward one gives `c` at `a` exactly if the backward one gives `a` at `c`, for all symbols. What the
-/// operations make of columns that agree agrees again. Columns from elsewhere may not: then each operation refuses them.
+/// The columns agree when the forward one gives `c` at `a` exactly if the backward one gives `a` at `c`, for all
+/// symbols. What the operations make of columns that agree agrees again. Columns from elsewhere may not: then each
+/// operation refuses them.
 ///
 /// An operation changes the bijection that it is called on, and leaves it as it is where it refuses.
 #[derive(Clone, Debug, PartialEq, Eq)]
@@ -54,7 +56,8 @@ impl Bijection {
 
     /// Pairs the pattern symbol `a` with the text symbol `c`. The same pair again changes nothing.
     ///
-    /// Refused by [`Refusal::ColumnsDisagree`], [`Refusal::HasOtherImage`] and [`Refusal::HasOtherPreimage`], in this order.
+    /// Refused by [`Refusal::ColumnsDisagree`], [`Refusal::HasOtherImage`] and [`Refusal::HasOtherPreimage`], in this
+    /// order.
     pub fn pair(&mut self, a: u8, c: u8) -> Result<(), Refusal> {
         // SAFETY: the columns have 256 entries each.
         outcome(unsafe {
@@ -70,9 +73,12 @@ impl Bijection {
         })
     }
 
-    /// First this bijection, then the other: `a` is paired with `c` wherever this one gives `b` at `a` and the other `c` at `b`.
+    /// First this bijection, then the other: `a` is paired with `c` wherever this one gives `b` at `a` and the other
+    /// `c` at `b`.
     ///
     /// Refused by [`Refusal::ColumnsDisagree`] if either earns it.
+    ///
+    /// To compose a bijection with itself, pass a clone: the other columns may not be those that are written.
     pub fn compose(&mut self, other: &Bijection) -> Result<(), Refusal> {
         // SAFETY: the columns have 256 entries each, and those of the other bijection lie apart.
         outcome(unsafe {

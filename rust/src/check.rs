@@ -17,7 +17,8 @@ pub struct Checked {
 pub enum CheckRefusal {
     /// By text or pattern: the listing is not looked at.
     Refused(Refusal),
-    /// By [`Refusal::ListingForm`]: a record of another kind than is due there, a cut or missing one, or bytes left over.
+    /// By [`Refusal::ListingForm`]: a record of another kind than is due there, a cut or missing one, or bytes left
+    /// over.
     ListingForm {
         /// The place of the record's first byte, or the listing's length where a record is missing.
         at: usize,
@@ -54,14 +55,14 @@ impl fmt::Display for CheckRefusal {
 
 impl std::error::Error for CheckRefusal {}
 
-/// Whether a listing, whoever wrote it, is one of this text and this pattern of `height` by `width` cells: how many windows it has as
-/// found and how many as refused, or its first bad record.
+/// Whether a listing, whoever wrote it, is one of this text and this pattern of `height` by `width` cells: how many
+/// windows it has as found and how many as refused, or its first bad record.
 ///
 /// Refused by [`Refusal::SideRange`], [`Refusal::CellCount`] and [`Refusal::TooLarge`], in this order, and then by
 /// [`Refusal::ListingForm`] or [`Refusal::ListingFalse`], whichever the first bad record earns.
 ///
-/// A mismatch need not be the one that [`search`](crate::search) writes: any two cells will do that are alike on the side that the kind
-/// says, and on no other.
+/// A mismatch need not be the one that [`search`](crate::search) writes: any two cells will do that are alike on the
+/// side that the kind says, and on no other.
 ///
 /// ```
 /// use colourway::{check, CheckRefusal, Checked};
@@ -119,8 +120,8 @@ pub fn check(
 
 /// [`check`] with its totals in what is lent to it: found and refused.
 ///
-/// [`Refusal::ListingForm`] and [`Refusal::ListingFalse`] have the place and a zero for them, and any other refusal leaves them as they
-/// were.
+/// [`Refusal::ListingForm`] and [`Refusal::ListingFalse`] have the place for the first and leave the second; any other
+/// refusal leaves both.
 #[allow(clippy::too_many_arguments)]
 pub fn check_into(
     text: &[u8],

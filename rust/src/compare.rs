@@ -7,8 +7,8 @@ use crate::{foreign, outcome, Bijection, Refusal};
 pub enum WindowAnswer {
     /// The bijection that pairs just the pattern's symbols with the window's.
     Match(Bijection),
-    /// Two cells, by position row by row in the pattern, that are alike on one side only (document 01's clash). The later one is the
-    /// first at which any mismatch ends, the earlier one the first that mismatches with it.
+    /// Two cells, by position row by row in the pattern, that are alike on one side only (document 01's clash). The
+    /// later one is the first at which any mismatch ends, the earlier one the first that mismatches with it.
     Mismatch {
         /// Whether they are alike in the pattern, and not in the window: document 01's kind 3. Otherwise its kind 4.
         alike_in_pattern: bool,
@@ -19,9 +19,11 @@ pub enum WindowAnswer {
     },
 }
 
-/// Whether the pattern of `height` by `width` cells matches the window of its size at corner (`row`, `column`) of a text.
+/// Whether the pattern of `height` by `width` cells matches the window of its size at corner (`row`, `column`) of a
+/// text.
 ///
-/// Refused by [`Refusal::SideRange`], [`Refusal::CellCount`], [`Refusal::TooLarge`] and [`Refusal::CornerOutside`], in this order.
+/// Refused by [`Refusal::SideRange`], [`Refusal::CellCount`], [`Refusal::TooLarge`] and [`Refusal::CornerOutside`], in
+/// this order.
 #[allow(clippy::too_many_arguments)]
 pub fn one_window(
     text: &[u8],
@@ -57,7 +59,8 @@ pub fn one_window(
     })
 }
 
-/// [`one_window`] with its answer in what is lent to it: the bijection, and a mismatch as its kind, its earlier and its later cell.
+/// [`one_window`] with its answer in what is lent to it: the bijection, and a mismatch as its kind, its earlier and its
+/// later cell.
 ///
 /// A match has three zeros for a mismatch, a mismatch has the empty bijection beside it, and a refusal changes neither.
 #[allow(clippy::too_many_arguments)]

@@ -1,5 +1,6 @@
-//! The static library's functions, as the files of `crates/exports/src` have them. There a slice is one parameter; here it is a pointer
-//! and then a length. `include/colourway.h` says the same for C, and the test `header` compares the three.
+//! The static library's functions, as the files of `crates/exports/src` have them. There a slice is one parameter; here
+//! it is a pointer and then a length. `include/colourway.h` says the same for C, and the test `header` compares the
+//! three.
 
 extern "C" {
     pub fn colourway_strip_links(

@@ -1,18 +1,20 @@
-//! Safe wrappers of the proved operations on texts, windows, symbol sets and bijections, of the one-window question, and of the search
-//! with its listing, the listing's reader and its check.
+//! Safe wrappers of the proved operations on texts, windows, symbol sets and bijections, of the one-window question,
+//! and of the search with its listing, the listing's reader and its check.
 //!
-//! A text (document 01's sheet) is `rows` by `columns` symbols (yarn numbers), one byte each, row by row; a pattern (motif) is `height`
-//! by `width`, laid out likewise. A window is the `height` by `width` part of the text at a corner (`row`, `column`), counted from 0. The
-//! pattern matches a window where a one-to-one renaming of its symbols, a [`Bijection`], gives the window's symbol in every cell.
-//! Where none does, two cells spoil the window: they are alike on one side only, a mismatch (clash).
+//! A text (document 01's sheet) is `rows` by `columns` symbols (yarn numbers), one byte each, row by row; a pattern
+//! (motif) is `height` by `width`, laid out likewise. A window is the `height` by `width` part of the text at a corner
+//! (`row`, `column`), counted from 0. The pattern matches a window where a one-to-one renaming of its symbols, a
+//! [`Bijection`], gives the window's symbol in every cell. Where none does, two cells spoil the window: they are alike
+//! on one side only, a mismatch (clash).
 //!
-//! Each wrapper hands its arguments on to one function of the static library, `crates/exports`. No function there asks anything of its
-//! caller, so a wrapper tests nothing and can't be misused: an input that makes no sense is refused, by document 01's number.
+//! Each wrapper hands its arguments on to one function of the static library, `crates/exports`. No function there asks
+//! anything of its caller, so a wrapper tests nothing and can't be misused: an input that makes no sense is refused, by
+//! document 01's number.
 //!
 //! # Example
 //!
-//! Document 01's first draft: the search lists every window of the text 7 7 3 / 3 7 7 for the pattern 1 1 / 2 1, the reader takes the
-//! listing apart, and the check passes it.
+//! Document 01's first draft: the search lists every window of the text 7 7 3 / 3 7 7 for the pattern 1 1 / 2 1, the
+//! reader takes the listing apart, and the check passes it.
 //!
 //! ```
 //! use colourway::{check, records, search, Buffers, Checked};
@@ -52,31 +54,72 @@
 //!
 //! | No. | [`Refusal`] | Condition | Given by |
 //! |---|---|---|---|
-//! | 1 | [`SizesMissing`](Refusal::SizesMissing) | fewer than 4 size bytes | the program |
-//! | 2 | [`SideRange`](Refusal::SideRange) | a side is 0 or above 255 | [`strip_links`], [`distinct_counts`], [`one_window`], [`search`], [`check`], the program |
-//! | 3 | [`CellCount`](Refusal::CellCount) | the cells given are not rows × columns in number | the same |
-//! | 4 | [`TooLarge`](Refusal::TooLarge) | the pattern, window or strip is taller or wider than the text | the same |
-//! | 5 | [`CornerOutside`](Refusal::CornerOutside) | the corner or the strip's column is beyond the last that fits | [`strip_links`], [`one_window`] |
-//! | 6 | [`ListingForm`](Refusal::ListingForm) | the listing has the wrong form | [`read`], [`check`] |
-//! | 7 | [`ListingFalse`](Refusal::ListingFalse) | the listing states what is not so | [`check`] |
-//! | 8 | [`TooManyCells`](Refusal::TooManyCells) | text or pattern has more than 16,384 cells | the program |
-//! | 9 | [`LinksBufferShort`](Refusal::LinksBufferShort) | the links buffer is shorter than rows × width | [`strip_links`], [`search`] |
-//! | 10 | [`WindowBufferShort`](Refusal::WindowBufferShort) | the flags or the counts buffer is shorter than the number of windows | [`distinct_counts`], [`search`] |
-//! | 11 | [`ListingBufferShort`](Refusal::ListingBufferShort) | the listing buffer is shorter than the listing | [`search`], the program |
-//! | 12 | [`HasOtherImage`](Refusal::HasOtherImage) | the pattern symbol already has another image | [`Bijection::pair`] |
-//! | 13 | [`HasOtherPreimage`](Refusal::HasOtherPreimage) | the text symbol is already another's image | [`Bijection::pair`] |
-//! | 14 | [`ColumnsDisagree`](Refusal::ColumnsDisagree) | the columns of a bijection disagree or hold a number above 256 | [`Bijection::pair`], [`Bijection::invert`], [`Bijection::compose`] |
-//! | 15 | [`CursorSpent`](Refusal::CursorSpent) | the cursor is at or past the end of the listing | [`read`] |
+//! | 1 | [`SizesMissing`] | fewer than 4 size bytes | the program |
+//! | 2 | [`SideRange`] | a side is 0 or above 255 | see below |
+//! | 3 | [`CellCount`] | the cells given are not rows × columns in number | the same |
+//! | 4 | [`TooLarge`] | the pattern, window or strip is taller or wider than the text | the same |
+//! | 5 | [`CornerOutside`] | the corner or the strip's column is beyond the last | [`strip_links`], [`one_window`] |
+//! | 6 | [`ListingForm`] | the listing has the wrong form | [`read`], [`check`] |
+//! | 7 | [`ListingFalse`] | the listing states what is not so | [`check`] |
+//! | 8 | [`TooManyCells`] | text or pattern has more than 16,384 cells | the program |
+//! | 9 | [`LinksBufferShort`] | the links buffer is shorter than rows × width | [`strip_links`], [`search`] |
+//! | 10 | [`WindowBufferShort`] | flags or counts are fewer than the windows | [`distinct_counts`], [`search`] |
+//! | 11 | [`ListingBufferShort`] | the listing buffer is shorter than the listing | [`search`], the program |
+//! | 12 | [`HasOtherImage`] | the pattern symbol already has another image | [`Bijection::pair`] |
+//! | 13 | [`HasOtherPreimage`] | the text symbol is already another's image | [`Bijection::pair`] |
+//! | 14 | [`ColumnsDisagree`] | columns that disagree or hold a number above 256 | [`Bijection`]'s operations |
+//! | 15 | [`CursorSpent`] | the cursor is at or past the end of the listing | [`read`] |
 //!
-//! Where an input earns several, the first in an operation's order is given. The order is 2, 3, 4, 5, 9, 10, 11 for those an operation has;
-//! 14, 12, 13 for a bijection; 15, 6 for the reader; 2, 3, 4 for the check, and then 6 or 7 by its first bad record. A refusal
-//! changes no buffer but where an operation says so: 11 alone does.
+//! 2, 3 and 4 are given by [`strip_links`], [`distinct_counts`], [`one_window`], [`search`], [`check`] and the program.
+//! Where an input earns several, the first in an operation's order is given. The order is 2, 3, 4, 5, 9, 10, 11 for
+//! those an operation has; 14, 12, 13 for a bijection; 15, 6 for the reader; 2, 3, 4 for the check, and then 6 or 7 by
+//! its first bad record.
+//!
+//! A refusal changes no buffer but where an operation says so: 11 alone does. What it returns besides its number is in
+//! the typed refusal: the length needed of 11 in [`SearchRefusal`], the place of the bad record of 6 and 7 in
+//! [`CheckRefusal`], the cursor's place of 15 and 6 in [`ReadRefusal`]. The operations whose names end in `_into` write
+//! that value where the answer's own would go, and leave all else.
+//!
+//! # Stack
+//!
+//! From its caller's frame down, a function of the static library touches at most this much of the stack:
+//!
+//! | Operation | Stack |
+//! |---|---|
+//! | [`search`], [`check`] | 14 KiB |
+//! | [`one_window`] | 7 KiB |
+//! | [`Bijection::compose`] | 6 KiB |
+//! | [`Bijection::pair`] | 4 KiB |
+//! | [`Bijection::invert`] | 3 KiB |
+//! | [`distinct_counts`] | 2 KiB |
+//! | [`strip_links`] | 1 KiB |
+//! | all others | 256 bytes |
+//!
+//! The search takes about that much whatever the size of its text, and also where it refuses. A wrapper adds its own
+//! locals, of which a [`Bijection`], 1 KiB, is the largest. The figures are measured and not proved;
+//! `include/colourway.h` says how. The test `stack` runs every operation in a thread of 64 KiB.
 //!
 //! # To build and test
 //!
-//! `rt staticlib exports` and `rt check colourway` at the repository's top, then `cargo test --release --offline` here. To measure the
-//! search beside a plain one, and the check beside the search: `cargo run --release --offline -p bench`. `include/colourway.h` has the
-//! same operations for C.
+//! `rt staticlib exports` and `rt check colourway` at the repository's top, then `cargo test --release --offline` here.
+//! To measure the search beside a plain one, and the check beside the search: `cargo run --release --offline -p bench`.
+//! `include/colourway.h` has the same operations for C, and how to link them.
+//!
+//! [`SizesMissing`]: Refusal::SizesMissing
+//! [`SideRange`]: Refusal::SideRange
+//! [`CellCount`]: Refusal::CellCount
+//! [`TooLarge`]: Refusal::TooLarge
+//! [`CornerOutside`]: Refusal::CornerOutside
+//! [`ListingForm`]: Refusal::ListingForm
+//! [`ListingFalse`]: Refusal::ListingFalse
+//! [`TooManyCells`]: Refusal::TooManyCells
+//! [`LinksBufferShort`]: Refusal::LinksBufferShort
+//! [`WindowBufferShort`]: Refusal::WindowBufferShort
+//! [`ListingBufferShort`]: Refusal::ListingBufferShort
+//! [`HasOtherImage`]: Refusal::HasOtherImage
+//! [`HasOtherPreimage`]: Refusal::HasOtherPreimage
+//! [`ColumnsDisagree`]: Refusal::ColumnsDisagree
+//! [`CursorSpent`]: Refusal::CursorSpent
 
 #![warn(missing_docs)]
 
@@ -109,8 +152,8 @@ pub enum Refusal {
     TooLarge = 4,
     /// The window's corner, or the strip's column, is beyond the last at which the window or strip fits.
     CornerOutside = 5,
-    /// The listing has the wrong form: for the reader an unknown kind or a cut record, for the check also a kind that is not due, a
-    /// missing record, or bytes left over.
+    /// The listing has the wrong form: for the reader an unknown kind or a cut record, for the check also a kind that
+    /// is not due, a missing record, or bytes left over.
     ListingForm = 6,
     /// The listing has a record of right form that states what is not so.
     ListingFalse = 7,
@@ -183,8 +226,8 @@ fn outcome(number: u8) -> Result<(), Refusal> {
 
 /// Writes the links of the strip of that `width` whose first column is `left`, row by row.
 ///
-/// The link of a position is the distance back to the nearest earlier position of the strip with the same symbol, or 0. The first
-/// `rows * width` entries of `links` are written and the rest stay. A refusal changes none.
+/// The link of a position is the distance back to the nearest earlier position of the strip with the same symbol, or 0.
+/// The first `rows * width` entries of `links` are written and the rest stay. A refusal changes none.
 ///
 /// Refused by [`Refusal::SideRange`], [`Refusal::CellCount`], [`Refusal::TooLarge`], [`Refusal::CornerOutside`] and
 /// [`Refusal::LinksBufferShort`], in this order.
@@ -211,11 +254,13 @@ pub fn strip_links(
     })
 }
 
-/// Writes the number of different symbols in each window of `height` by `width` cells, row by row of corners (document 01's tallies).
+/// Writes the number of different symbols in each window of `height` by `width` cells, row by row of corners (document
+/// 01's tallies).
 ///
 /// One entry of `counts` a window is written and the rest stay. A refusal changes none.
 ///
-/// Refused by [`Refusal::SideRange`], [`Refusal::CellCount`], [`Refusal::TooLarge`] and [`Refusal::WindowBufferShort`], in this order.
+/// Refused by [`Refusal::SideRange`], [`Refusal::CellCount`], [`Refusal::TooLarge`] and [`Refusal::WindowBufferShort`],
+/// in this order.
 pub fn distinct_counts(
     text: &[u8],
     rows: usize,
@@ -239,7 +284,8 @@ pub fn distinct_counts(
     })
 }
 
-/// The symbol in cell (`i`, `j`) of the window at corner (`row`, `column`), or `None` where the cell lies past the text's end.
+/// The symbol in cell (`i`, `j`) of the window at corner (`row`, `column`), or `None` where the cell lies past the
+/// text's end.
 ///
 /// The text is read through its row width, without copying: a column beyond it leads into the next row.
 pub fn window_cell(text: &[u8], row_width: u8, row: u8, column: u8, i: u8, j: u8) -> Option<u8> {

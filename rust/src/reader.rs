@@ -129,8 +129,8 @@ impl std::error::Error for ReadRefusal {}
 
 /// The record at the place `at` of a listing, with the place after it.
 ///
-/// Refused by [`Refusal::CursorSpent`] at or past the listing's end, and by [`Refusal::ListingForm`] where an unknown kind or a cut
-/// record stands, in this order.
+/// Refused by [`Refusal::CursorSpent`] at or past the listing's end, and by [`Refusal::ListingForm`] where an unknown
+/// kind or a cut record stands, in this order.
 pub fn read(listing: &[u8], at: usize) -> Result<(Record, usize), ReadRefusal> {
     let mut fields = [0; 7];
     let mut next = 0;
@@ -140,7 +140,8 @@ pub fn read(listing: &[u8], at: usize) -> Result<(Record, usize), ReadRefusal> {
     }
 }
 
-/// [`read`] with its answer in what is lent to it: the record's kind and its numbers, and then zeros; and the place after the record.
+/// [`read`] with its answer in what is lent to it: the record's kind and its numbers, and then zeros; and the place
+/// after the record.
 ///
 /// A refusal leaves the fields as they were, and has the cursor's place for the place after.
 pub fn read_into(
@@ -149,7 +150,8 @@ pub fn read_into(
     fields: &mut [u16; 7],
     next: &mut usize,
 ) -> Result<(), Refusal> {
-    // SAFETY: the slice is passed as it is, a pointer with its own length; the fields are seven and the next place is one.
+    // SAFETY: the slice is passed as it is, a pointer with its own length; the fields are seven and the next place is
+    // one.
     outcome(unsafe {
         foreign::colourway_read(
             listing.as_ptr(),
@@ -168,7 +170,8 @@ pub struct Records<'a> {
     at: usize,
 }
 
-/// The records of a listing from its first byte to its end. Where there is no whole record the refusal is given, and nothing after it.
+/// The records of a listing from its first byte to its end. Where there is no whole record the refusal is given, and
+/// nothing after it.
 ///
 /// The records' order is not looked at, and neither is whether they are true.
 pub fn records(listing: &[u8]) -> Records<'_> {

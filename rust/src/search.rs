@@ -8,7 +8,8 @@ use std::fmt;
 pub struct Buffers<'a> {
     /// At least `rows * width` entries, in which the search works. It leaves zeros in them.
     pub links: &'a mut [u16],
-    /// At least an entry a window: the number of different symbols in it, as [`distinct_counts`](crate::distinct_counts) has it.
+    /// At least an entry a window: the number of different symbols in it, as
+    /// [`distinct_counts`](crate::distinct_counts) has it.
     pub counts: &'a mut [u16],
     /// At least a byte a window: 1 where the pattern matches, 0 where it does not (document 01's marks).
     pub flags: &'a mut [u8],
@@ -32,7 +33,8 @@ pub struct Totals {
 pub enum SearchRefusal {
     /// By the input, or a buffer other than the listing: nothing is changed.
     Refused(Refusal),
-    /// By [`Refusal::ListingBufferShort`]: flags, counts and links are as after an accepted search, and the listing buffer is untouched.
+    /// By [`Refusal::ListingBufferShort`]: flags, counts and links are as after an accepted search, and the listing
+    /// buffer is untouched.
     ListingBufferShort {
         /// How many bytes the listing has.
         needed: usize,
@@ -58,14 +60,16 @@ impl fmt::Display for SearchRefusal {
 
 impl std::error::Error for SearchRefusal {}
 
-/// Compares the pattern of `height` by `width` cells with every window of a text, and lists what [`one_window`](crate::one_window)
-/// answers for each, row by row of corners: a match with its pairs, or a mismatch with its two cells.
+/// Compares the pattern of `height` by `width` cells with every window of a text, and lists what
+/// [`one_window`](crate::one_window) answers for each, row by row of corners: a match with its pairs, or a mismatch
+/// with its two cells.
 ///
 /// Refused by [`Refusal::SideRange`], [`Refusal::CellCount`], [`Refusal::TooLarge`], [`Refusal::LinksBufferShort`],
-/// [`Refusal::WindowBufferShort`] and [`Refusal::ListingBufferShort`], in this order. The last one tells the length needed.
+/// [`Refusal::WindowBufferShort`] and [`Refusal::ListingBufferShort`], in this order. The last one tells the length
+/// needed.
 ///
-/// There are `(rows - height + 1) * (columns - width + 1)` windows. With `d` symbols in the pattern a match takes `3 + 3 * d` bytes of
-/// the listing, a mismatch 7 and the closing 5.
+/// There are `(rows - height + 1) * (columns - width + 1)` windows. With `d` symbols in the pattern a match takes `3 +
+/// 3 * d` bytes of the listing, a mismatch 7 and the closing 5.
 ///
 /// How long a listing is, is known when all windows have been compared. A search that is lent no room for it tells:
 ///
@@ -127,7 +131,8 @@ pub fn search(
 
 /// [`search`] with its totals in what is lent to it: found, refused and the listing's length.
 ///
-/// [`Refusal::ListingBufferShort`] has two zeros and the length needed for them, and any other refusal leaves them as they were.
+/// [`Refusal::ListingBufferShort`] has the length needed for the last and leaves the other two; any other refusal
+/// leaves all three.
 #[allow(clippy::too_many_arguments)]
 pub fn search_into(
     text: &[u8],
@@ -139,7 +144,8 @@ pub fn search_into(
     buffers: Buffers,
     totals: &mut [usize; 3],
 ) -> Result<(), Refusal> {
-    // SAFETY: each slice is passed as it is, a pointer with its own length; the buffers are lent for writing and lie apart.
+    // SAFETY: each slice is passed as it is, a pointer with its own length; the buffers are lent for writing and lie
+    // apart.
     outcome(unsafe {
         foreign::colourway_search(
             text.as_ptr(),

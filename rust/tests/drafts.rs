@@ -1,5 +1,5 @@
-//! Document 01's drafts and misweaves of the lower library, run on the proved code. Every expected value is typed from document 01 or
-//! found by hand; none comes from the brute force.
+//! Document 01's drafts and misweaves of the lower library, run on the proved code. Every expected value is typed from
+//! document 01 or found by hand; none comes from the brute force.
 
 use colourway::{distinct_counts, strip_links, window_cell, Refusal, Symbols};
 
@@ -91,8 +91,8 @@ fn sides_of_255_are_accepted() {
     assert_eq!(counts, [1, NOISE]);
 }
 
-/// The sides of a text and a window that are right but for one: 0 and 256 are refused by 2, whichever side has them. The text has as many
-/// cells as the bad sides ask for, so that nothing else is wrong with it.
+/// The sides of a text and a window that are right but for one: 0 and 256 are refused by 2, whichever side has them.
+/// The text has as many cells as the bad sides ask for, so that nothing else is wrong with it.
 #[test]
 fn sides_of_0_and_256_are_refused() {
     for bad in [0, 256] {

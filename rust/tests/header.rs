@@ -1,5 +1,6 @@
-//! The C header, the Rust declarations and the exported functions say the same: `include/colourway.h`, `rust/src/foreign.rs` and
-//! `crates/exports/src`. A linker compares names alone, and rows exchanged with columns would pass for right.
+//! The C header, the Rust declarations and the exported functions say the same: `include/colourway.h`,
+//! `rust/src/foreign.rs` and `crates/exports/src`. A linker compares names alone, and rows exchanged with columns would
+//! pass for right.
 
 use colourway::Refusal;
 use std::collections::BTreeMap;
@@ -45,7 +46,8 @@ fn add(functions: &mut Functions, head: &str, result: &str, read: impl Fn(&str) 
     assert!(before.is_none(), "{name} twice");
 }
 
-/// The functions of a text in Rust or Rattle: what comes after these words, up to where its body or its contract begins.
+/// The functions of a text in Rust or Rattle: what comes after these words, up to where its body or its contract
+/// begins.
 fn after_words(text: &str, words: &str, read: impl Fn(&str) -> Vec<Parameter>) -> Functions {
     let mut functions = Functions::new();
     for declaration in text.split(words).skip(1) {

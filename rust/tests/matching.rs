@@ -1,5 +1,5 @@
-//! Document 01's drafts and misweaves of bijections and the one-window question, run on the proved code. Every expected value is typed
-//! from document 01 or found by hand; none comes from the brute force.
+//! Document 01's drafts and misweaves of bijections and the one-window question, run on the proved code. Every expected
+//! value is typed from document 01 or found by hand; none comes from the brute force.
 
 use colourway::{one_window, one_window_into, Bijection, Refusal, WindowAnswer, NONE};
 
@@ -173,7 +173,8 @@ fn composing() {
     assert_eq!(b, holding(&[(1, 9), (0, 0)]));
 }
 
-/// Columns that hold a number above 256, or of which one alone gives a pair: 14 comes before 12 and 13, and nothing is changed.
+/// Columns that hold a number above 256, or of which one alone gives a pair: 14 comes before 12 and 13, and nothing is
+/// changed.
 #[test]
 fn columns_that_disagree_are_refused() {
     let good = holding(&[(1, 7), (2, 3)]);

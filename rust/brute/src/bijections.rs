@@ -1,4 +1,5 @@
-//! "Renamings" by brute force: an operation takes the columns apart into pairs, works on the set of pairs, and makes columns of it.
+//! "Renamings" by brute force: an operation takes the columns apart into pairs, works on the set of pairs, and makes
+//! columns of it.
 
 use crate::first_refusal;
 use std::collections::BTreeSet;
@@ -32,7 +33,8 @@ pub(crate) fn columns_of(pairs: &BTreeSet<(u8, u8)>) -> Columns {
     columns
 }
 
-/// "The columns agree when, for all numbers a and b up to 255, the forward one gives b at a exactly if the backward one gives a at b."
+/// "The columns agree when, for all numbers a and b up to 255, the forward one gives b at a exactly if the backward one
+/// gives a at b."
 fn agree([forward, backward]: &Columns) -> bool {
     (0..256).all(|a| {
         (0..256).all(|b| (usize::from(forward[a]) == b) == (usize::from(backward[b]) == a))

@@ -1,4 +1,5 @@
-//! "Checking" by brute force: for each record that is due in turn, every condition is looked at on the cells themselves.
+//! "Checking" by brute force: for each record that is due in turn, every condition is looked at on the cells
+//! themselves.
 
 use crate::listing::first_record;
 use crate::{cells, first_refusal, product, some_side_is_bad, symbol_set};
@@ -77,7 +78,8 @@ fn places_by_symbol(pattern: &[u8]) -> Vec<(u8, Vec<usize>)> {
         .collect()
 }
 
-/// Whether a record of kind 3 or 4 names two cells of the motif, the "earlier before later" and "alike as the kind says".
+/// Whether a record of kind 3 or 4 names two cells of the motif, the "earlier before later" and "alike as the kind
+/// says".
 fn is_clash(pattern: &[u8], height: usize, width: usize, window: &[u8], record: &[u8]) -> bool {
     let earlier = (usize::from(record[3]), usize::from(record[4]));
     let later = (usize::from(record[5]), usize::from(record[6]));
@@ -106,9 +108,9 @@ struct Walk<'a> {
 }
 
 impl<'a> Walk<'a> {
-    /// The next record, if it is whole, has a kind that is due and is true: "another kind, a missing or cut record .. is 6", and "for a
-    /// record of right form, 7 is" what is false. "6 and 7 from the check return the place of the first byte of the first bad record, or
-    /// the listing's length where a record is missing."
+    /// The next record, if it is whole, has a kind that is due and is true: "another kind, a missing or cut record ..
+    /// is 6", and "for a record of right form, 7 is" what is false. "6 and 7 from the check return the place of the
+    /// first byte of the first bad record, or the listing's length where a record is missing."
     fn next(&mut self, due: &[u8], is_true: impl Fn(&[u8]) -> bool) -> Result<&'a [u8], Refused> {
         let place = Some(self.at);
         match first_record(&self.listing[self.at..]) {

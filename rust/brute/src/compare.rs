@@ -4,8 +4,8 @@ use crate::bijections::{columns_of, Columns};
 use crate::{cells, first_refusal, product, some_side_is_bad};
 use std::collections::BTreeSet;
 
-/// What is answered: the outcome's number; the kind of the clash with its earlier and its later cell, or three zeros; the renaming.
-/// Beside a clash or a refusal stands the empty renaming, which document 01 leaves open.
+/// What is answered: the outcome's number; the kind of the clash with its earlier and its later cell, or three zeros;
+/// the renaming. Beside a clash or a refusal stands the empty renaming, which document 01 leaves open.
 type Answer = (u8, [usize; 3], Columns);
 
 /// "The answer is the renaming, mating just the motif's numbers, or a clash."
@@ -45,11 +45,11 @@ pub fn one_window(
     }
 }
 
-/// The pairs of motif number and window number, cell by cell, or else the clash: "the later cell of the clash is the first at which any
-/// clash ends; the earlier is then the first that clashes with it".
+/// The pairs of motif number and window number, cell by cell, or else the clash: "the later cell of the clash is the
+/// first at which any clash ends; the earlier is then the first that clashes with it".
 ///
-/// A cell whose pair stood in a cell before is alike with that cell on both sides, so it clashes with just what that cell clashes with.
-/// Up to here nothing clashes, and so no clash ends in it.
+/// A cell whose pair stood in a cell before is alike with that cell on both sides, so it clashes with just what that
+/// cell clashes with. Up to here nothing clashes, and so no clash ends in it.
 fn pairs_or_clash(pattern: &[u8], window: &[u8]) -> Result<BTreeSet<(u8, u8)>, [usize; 3]> {
     let mut pairs = BTreeSet::new();
     for later in 0..pattern.len() {
@@ -62,7 +62,8 @@ fn pairs_or_clash(pattern: &[u8], window: &[u8]) -> Result<BTreeSet<(u8, u8)>, [
     Ok(pairs)
 }
 
-/// The first cell that clashes with this later one. Kind 3 is "alike in the motif only", kind 4 "alike in the window only".
+/// The first cell that clashes with this later one. Kind 3 is "alike in the motif only", kind 4 "alike in the window
+/// only".
 fn clash_ending(pattern: &[u8], window: &[u8], later: usize) -> Option<[usize; 3]> {
     for earlier in 0..later {
         let in_pattern = pattern[earlier] == pattern[later];

@@ -1,8 +1,8 @@
 //! Document 01's operations by brute force.
 //!
-//! This is written from document 01's sentences and shares no code with what it is compared with. It is meant to be seen right at a
-//! glance, however slow it is. An operation on a buffer takes the buffer as it was, and answers the number of the refusal (0 where the
-//! input is accepted) with the whole buffer as it is afterwards.
+//! This is written from document 01's sentences and shares no code with what it is compared with. It is meant to be
+//! seen right at a glance, however slow it is. An operation on a buffer takes the buffer as it was, and answers the
+//! number of the refusal (0 where the input is accepted) with the whole buffer as it is afterwards.
 
 mod bijections;
 mod check;
@@ -20,7 +20,8 @@ pub use search::{search, Buffers};
 
 use std::collections::BTreeSet;
 
-/// The number of the first condition that holds, or 0: "each is given when its condition holds and no earlier one does".
+/// The number of the first condition that holds, or 0: "each is given when its condition holds and no earlier one
+/// does".
 fn first_refusal(conditions: &[(u8, bool)]) -> u8 {
     conditions
         .iter()
@@ -131,7 +132,8 @@ fn cells(
     found
 }
 
-/// "A window is read through its corner and the sheet's row width": the cell after `row + i` whole rows and `column + j` cells.
+/// "A window is read through its corner and the sheet's row width": the cell after `row + i` whole rows and `column +
+/// j` cells.
 pub fn window_cell(text: &[u8], row_width: u8, row: u8, column: u8, i: u8, j: u8) -> Option<u8> {
     let mut left = text.iter();
     for _ in 0..row as usize + i as usize {

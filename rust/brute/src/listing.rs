@@ -18,8 +18,9 @@ pub(crate) fn first_record(bytes: &[u8]) -> Option<&[u8]> {
     bytes.get(..1 + length)
 }
 
-/// "The reader answers a record with the cursor after it, or 6 for an unknown kind or a cut record, or 15": the outcome's number; the
-/// record's kind and its numbers, none where it is refused; the cursor after it, or "the cursor's place".
+/// "The reader answers a record with the cursor after it, or 6 for an unknown kind or a cut record, or 15": the
+/// outcome's number; the record's kind and its numbers, none where it is refused; the cursor after it, or "the cursor's
+/// place".
 pub fn read(listing: &[u8], at: usize) -> (u8, Vec<u16>, usize) {
     let rest = listing.get(at..).unwrap_or(&[]);
     let record = first_record(rest);

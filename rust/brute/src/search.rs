@@ -1,4 +1,5 @@
-//! "Search and listing" by brute force: the one-window question is asked of every window, and its answers are written down.
+//! "Search and listing" by brute force: the one-window question is asked of every window, and its answers are written
+//! down.
 
 use crate::{distinct_counts, one_window, symbol_set};
 use crate::{first_refusal, product, some_side_is_bad, windows, with_first};
@@ -12,8 +13,8 @@ pub struct Buffers {
     pub listing: Vec<u8>,
 }
 
-/// The outcome's number; what is returned beside it, which is "a, b and that length" of an accepted search, "the length needed" beside
-/// 11 and nothing beside another refusal; and the buffers afterwards.
+/// The outcome's number; what is returned beside it, which is "a, b and that length" of an accepted search, "the length
+/// needed" beside 11 and nothing beside another refusal; and the buffers afterwards.
 pub fn search(
     text: &[u8],
     rows: usize,

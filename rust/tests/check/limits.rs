@@ -83,8 +83,8 @@ fn all_symbols_are_symbols() {
     assert_eq!(checked(&listing), falsehood(pairs_end - 3));
 }
 
-/// One input that earns every refusal at once, mended step by step, meets them in document 01's order. 2, 3 and 4 are given whatever the
-/// listing is, and leave the totals.
+/// One input that earns every refusal at once, mended step by step, meets them in document 01's order. 2, 3 and 4 are
+/// given whatever the listing is, and leave the totals; 6 and 7 write the place to the first and leave the second.
 #[test]
 fn refusals_come_in_order() {
     let number = |cells: usize, rows, pattern_cells: usize, height, listing: &[u8]| {
@@ -113,14 +113,14 @@ fn refusals_come_in_order() {
         assert_eq!(number(6, 2, 5, 3, listing), (3, untouched));
         assert_eq!(number(6, 2, 6, 3, listing), (4, untouched));
     }
-    assert_eq!(number(6, 2, 4, 2, &[]), (6, [0, 0]));
-    assert_eq!(number(6, 2, 4, 2, &good[..20]), (6, [16, 0]));
-    assert_eq!(number(6, 2, 4, 2, &bad), (7, [3, 0]));
+    assert_eq!(number(6, 2, 4, 2, &[]), (6, [0, NOISE]));
+    assert_eq!(number(6, 2, 4, 2, &good[..20]), (6, [16, NOISE]));
+    assert_eq!(number(6, 2, 4, 2, &bad), (7, [3, NOISE]));
     assert_eq!(number(6, 2, 4, 2, &good), (0, [1, 1]));
 }
 
-/// The sides of a text and a pattern that are right but for one: 0 and 256 are refused by 2, whichever side has them. Text and pattern
-/// have as many cells as the bad sides ask for, so that nothing else is wrong.
+/// The sides of a text and a pattern that are right but for one: 0 and 256 are refused by 2, whichever side has them.
+/// Text and pattern have as many cells as the bad sides ask for, so that nothing else is wrong.
 #[test]
 fn sides_of_0_and_256_are_refused() {
     for bad in [0, 256] {

@@ -1,5 +1,5 @@
-//! Document 01's drafts of the check, and each sentence on what it refuses, run on the proved code. Every expected value is typed from
-//! document 01 or found by hand; none comes from the brute force.
+//! Document 01's drafts of the check, and each sentence on what it refuses, run on the proved code. Every expected
+//! value is typed from document 01 or found by hand; none comes from the brute force.
 
 mod falsehoods;
 mod forms;
@@ -123,7 +123,8 @@ fn one_row_drafts() {
     refused(&[4, 5, 6], &[1, 1, 1], &[3, 0, 0, 0, 1, 0, 2]);
 }
 
-/// The second window of the first draft has 7 3 / 7 7 under 1 1 / 2 1: these are all the pairs of cells that are alike on one side only.
+/// The second window of the first draft has 7 3 / 7 7 under 1 1 / 2 1: these are all the pairs of cells that are alike
+/// on one side only.
 #[test]
 fn any_true_mismatch_will_do() {
     for mismatch in [

@@ -22,7 +22,8 @@ fn noise(random: &mut Random) -> Columns {
     [(); 2].map(|()| [(); 256].map(|()| random.between(0, most) as u16))
 }
 
-/// Puts another number into one place of a column: also one above 256, and one that a cast to fewer bits would make good again.
+/// Puts another number into one place of a column: also one above 256, and one that a cast to fewer bits would make
+/// good again.
 fn damage(random: &mut Random, columns: &mut Columns) {
     let column = random.below(2);
     let place = random.below(256);
@@ -113,8 +114,8 @@ fn composing_agrees() {
         proved: |(first, second)| proved(first, |b| b.compose(&bijection(second))),
         brute: |(first, second)| brute::compose(first, second),
     };
-    // Of an accepted answer also whether it has no pair, some, or all. A refusal gives the first bijection back: if that one can be
-    // inverted, the second was bad.
+    // Of an accepted answer also whether it has no pair, some, or all. A refusal gives the first bijection back: if
+    // that one can be inverted, the second was bad.
     let met = operation.compare(|(number, after)| match (number, size(after)) {
         (0, 0) => (0, "empty"),
         (0, 256) => (0, "whole"),

@@ -11,7 +11,8 @@ use colourway::{check, check_into, CheckRefusal, Checked, Refusal};
 use reasons::{falsehoods, wrong_form};
 use std::collections::BTreeMap;
 
-/// How many listings are checked: most of small texts, and, apart from the others, of texts of 40 by 40 and of 255 by 255 cells.
+/// How many listings are checked: most of small texts, and, apart from the others, of texts of 40 by 40 and of 255 by
+/// 255 cells.
 const CASES: u64 = 200_000;
 const MIDDLE_CASES: u64 = 1_000;
 const LARGE_CASES: u64 = 40;
@@ -160,19 +161,22 @@ fn brute(case: &Input) -> Answer {
         given.width,
         &case.listing,
     );
+    let [_, second] = case.totals;
     match answer {
         Ok((found, refused)) => ((0, [found, refused]), Ok(Checked { found, refused })),
-        Err((6, Some(at))) => ((6, [at, 0]), Err(CheckRefusal::ListingForm { at })),
-        Err((7, Some(at))) => ((7, [at, 0]), Err(CheckRefusal::ListingFalse { at })),
+        // The place goes to the first total, and the second stays.
+        Err((6, Some(at))) => ((6, [at, second]), Err(CheckRefusal::ListingForm { at })),
+        Err((7, Some(at))) => ((7, [at, second]), Err(CheckRefusal::ListingFalse { at })),
         Err((number, _)) => {
             let why = Refusal::from_number(number).expect("a number of document 01");
-            // Any other refusal leaves the totals.
+            // Any other refusal leaves both.
             ((number, case.totals), Err(CheckRefusal::Refused(why)))
         }
     }
 }
 
-/// The number, and of an accepted listing how many windows are found; of a refused one what is wrong with its first bad record.
+/// The number, and of an accepted listing how many windows are found; of a refused one what is wrong with its first bad
+/// record.
 fn result(input: &Input, answer: &Answer) -> (u8, &'static str) {
     let ((number, totals), _) = answer;
     let detail = match (*number, *totals) {
@@ -205,7 +209,8 @@ fn assert_details(met: &BTreeMap<Kind, u64>, number: u8, details: &[&str]) {
     assert_met(&of_number, details);
 }
 
-/// Fails unless every damage was done often enough, and, where text and pattern are good, had the numbers that it can have.
+/// Fails unless every damage was done often enough, and, where text and pattern are good, had the numbers that it can
+/// have.
 fn assert_damages(met: &BTreeMap<Kind, u64>) {
     let mut names: Vec<&str> = DAMAGES.iter().map(|(name, _, _)| *name).collect();
     names.push("none");
@@ -220,7 +225,8 @@ fn assert_damages(met: &BTreeMap<Kind, u64>) {
     }
 }
 
-/// The cases of listings that nothing was done to, with a good text and pattern, by where they come from and the number.
+/// The cases of listings that nothing was done to, with a good text and pattern, by where they come from and the
+/// number.
 fn origins(met: &BTreeMap<Kind, u64>) -> BTreeMap<(&'static str, u8), u64> {
     by_part(met, |&(origin, damage, (number, _))| {
         let whole = damage == "none" && ![2, 3, 4].contains(&number);

@@ -16,8 +16,9 @@ struct Input {
     width: usize,
     row: usize,
     column: usize,
-    /// What the buffers hold before the operation.
-    noise: u16,
+    /// What the columns and the mismatch hold before the operation.
+    bijection: Columns,
+    mismatch: [usize; 3],
 }
 
 impl Input {
@@ -34,7 +35,8 @@ impl Input {
             width,
             row: random.place(rows - height),
             column: random.place(columns - width),
-            noise: random.next() as u16,
+            bijection: [(); 2].map(|()| [(); 256].map(|()| random.next() as u16)),
+            mismatch: [(); 3].map(|()| random.next() as usize),
         }
     }
 
@@ -72,7 +74,8 @@ impl Input {
         }
     }
 
-    /// Spoils the input, or not, in each way by which it can be refused: several at once show the order of the refusals.
+    /// Spoils the input, or not, in each way by which it can be refused: several at once show the order of the
+    /// refusals.
     fn spoil(&mut self, random: &mut Random) {
         if random.one_in(12) {
             self.row = random.choose(&[self.rows - self.height + 1, self.rows, usize::MAX]);
@@ -96,7 +99,8 @@ impl Input {
     }
 }
 
-/// An input of which the pattern is planted in the text, or planted and then changed in one cell, or neither; spoilt, or not.
+/// An input of which the pattern is planted in the text, or planted and then changed in one cell, or neither; spoilt,
+/// or not.
 fn input(random: &mut Random) -> Input {
     let mut input = Input::unrelated(random);
     match random.below(3) {
@@ -115,9 +119,9 @@ fn input(random: &mut Random) -> Input {
 type Answer = ((u8, [usize; 3], Columns), Result<WindowAnswer, u8>);
 
 fn proved(case: &Input) -> Answer {
-    let column = [case.noise; 256];
-    let mut bijection = Bijection::from_columns(column, column);
-    let mut mismatch = [usize::from(case.noise); 3];
+    let [forward, backward] = case.bijection;
+    let mut bijection = Bijection::from_columns(forward, backward);
+    let mut mismatch = case.mismatch;
     let outcome = one_window_into(
         &case.text,
         case.rows,
@@ -170,10 +174,9 @@ fn brute(case: &Input) -> Answer {
         (number, _, _) => Err(number),
     };
     // A refusal changes no buffer.
-    let noise = [case.noise; 256];
     let left = match answer {
         (0, _, _) => answer,
-        (number, _, _) => (number, [usize::from(case.noise); 3], [noise, noise]),
+        (number, _, _) => (number, case.mismatch, case.bijection),
     };
     (left, typed)
 }
@@ -186,7 +189,8 @@ fn windows_agree() {
         proved,
         brute,
     };
-    // The number and the kind; and of a match whether it pairs several symbols, of a mismatch whether it begins after the first cell.
+    // The number and the kind; and of a match whether it pairs several symbols, of a mismatch whether it begins after
+    // the first cell.
     let met = operation.compare(|((number, mismatch, columns), _)| {
         let [kind, earlier, _] = *mismatch;
         match number {

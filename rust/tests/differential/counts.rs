@@ -13,7 +13,8 @@ struct Input {
     counts: Vec<u16>,
 }
 
-/// A good input that is then spoilt, or not, in each way by which it can be refused: several at once show the order of the refusals.
+/// A good input that is then spoilt, or not, in each way by which it can be refused: several at once show the order of
+/// the refusals.
 fn input(random: &mut Random) -> Input {
     let (rows, columns) = random.sides();
     let mut height = random.part(rows);

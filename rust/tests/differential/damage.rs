@@ -1,4 +1,5 @@
-//! Listings taken apart and put together again: with other mismatches, as true as the search's own, and with something wrong.
+//! Listings taken apart and put together again: with other mismatches, as true as the search's own, and with something
+//! wrong.
 
 mod listings;
 mod records;
@@ -106,7 +107,8 @@ fn some_below(random: &mut Random, n: usize, holds: impl Fn(usize) -> bool) -> O
 /// About so many pairs of cells are looked at for another mismatch of a window: all of a window of up to 64 cells.
 const PAIRS_OF_CELLS: usize = 64 * 64;
 
-/// Some true mismatch of a window: the kind is chosen first, and then any of this kind can come. None where none was met.
+/// Some true mismatch of a window: the kind is chosen first, and then any of this kind can come. None where none was
+/// met.
 fn some_mismatch(random: &mut Random, given: &TextAndPattern, window: usize) -> Option<Vec<u8>> {
     let symbols = given.window(window);
     let cells = symbols.len();

@@ -1,4 +1,5 @@
-//! The proved operations and the brute force on the same random inputs: the answer and every cell of the buffer are compared.
+//! The proved operations and the brute force on the same random inputs: the answer and every cell of the buffer are
+//! compared.
 
 mod bijections;
 mod check;
@@ -49,7 +50,8 @@ impl<Input: Debug, Answer: PartialEq + Debug> Operation<Input, Answer> {
             let brute = (self.brute)(&input);
             assert!(
                 proved == brute,
-                "{}: seed {SEED:#x}, case {case}\n  input: {input:?}\n  proved code: {proved:?}\n  brute force: {brute:?}",
+                "{}: seed {SEED:#x}, case {case}\n  input: {input:?}\n  proved code: {proved:?}\n  \
+                 brute force: {brute:?}",
                 self.name
             );
             *kinds.entry(kind(&input, &brute)).or_insert(0) += 1;
@@ -58,8 +60,8 @@ impl<Input: Debug, Answer: PartialEq + Debug> Operation<Input, Answer> {
     }
 }
 
-/// Fails unless each of these kinds of answer, and no other, came up often enough for the comparison to say something of it: in a
-/// hundredth of all cases.
+/// Fails unless each of these kinds of answer, and no other, came up often enough for the comparison to say something
+/// of it: in a hundredth of all cases.
 fn assert_met<Kind: Copy + PartialEq + Debug>(met: &BTreeMap<Kind, u64>, kinds: &[Kind]) {
     let seen: Vec<Kind> = met.keys().copied().collect();
     assert_eq!(seen, kinds, "the kinds of answer that the inputs had");

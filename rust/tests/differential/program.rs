@@ -30,7 +30,8 @@ struct Input {
     bytes: Vec<u8>,
 }
 
-/// The sides of a text of up to 16,384 cells, and of a pattern that is small or nearly as large. Many have listings too long.
+/// The sides of a text of up to 16,384 cells, and of a pattern that is small or nearly as large. Many have listings too
+/// long.
 fn large_sides(random: &mut Random) -> [usize; 4] {
     let (rows, columns) = match random.below(10) {
         0..=3 => (128, 128),

@@ -7,7 +7,8 @@ pub const SEED: u64 = 0x5EED_0000_C010_0E7A;
 pub struct Random(u64);
 
 impl Random {
-    /// The generator of one case. It depends on the seed, the operation and the case alone, so a case that failed can be run by itself.
+    /// The generator of one case. It depends on the seed, the operation and the case alone, so a case that failed can
+    /// be run by itself.
     pub fn of_case(operation: &str, case: u64) -> Random {
         let mut random = Random(SEED ^ case);
         for byte in operation.bytes() {
@@ -89,8 +90,8 @@ impl Random {
         }
     }
 
-    /// A side of a window in a text that has `whole` for this side. In a large text it is close to 1 or to the whole, so that the brute
-    /// force, whose work is windows × cells, has an end.
+    /// A side of a window in a text that has `whole` for this side. In a large text it is close to 1 or to the whole,
+    /// so that the brute force, whose work is windows × cells, has an end.
     pub fn part(&mut self, whole: usize) -> usize {
         let most = if whole <= 32 { whole } else { 3 };
         let part = self.between(1, most);
@@ -110,7 +111,8 @@ impl Random {
         }
     }
 
-    /// Makes one of the sides 0 or too large, once in a while: also by a number that a cast to fewer bits would make good again.
+    /// Makes one of the sides 0 or too large, once in a while: also by a number that a cast to fewer bits would make
+    /// good again.
     pub fn spoil_side(&mut self, sides: &mut [usize]) {
         if self.one_in(12) {
             let at = self.below(sides.len());

@@ -63,7 +63,8 @@ fn listing(random: &mut Random) -> (&'static str, Vec<u8>) {
     }
 }
 
-/// The place of a record, as far as the listing has whole ones: the last place is at the end or at what is no whole record.
+/// The place of a record, as far as the listing has whole ones: the last place is at the end or at what is no whole
+/// record.
 fn record_place(random: &mut Random, listing: &[u8]) -> usize {
     let mut places = vec![0];
     let mut at = 0;
@@ -115,7 +116,7 @@ fn proved(case: &Input) -> Answer {
 fn brute(case: &Input) -> Answer {
     let (number, record, next) = brute::read(&case.listing, case.at);
     if number != 0 {
-        // A refusal changes no buffer.
+        // A refusal leaves the fields, and returns the cursor's place.
         return ((number, case.fields, next), Err((number, next)));
     }
     let mut fields = [0; 7];
@@ -124,7 +125,8 @@ fn brute(case: &Input) -> Answer {
     ((0, fields, next), Ok((bytes, next)))
 }
 
-/// The number, and the kind of a record; of a refusal by 6 whether the kind is known, of one by 15 whether the cursor is at the end.
+/// The number, and the kind of a record; of a refusal by 6 whether the kind is known, of one by 15 whether the cursor
+/// is at the end.
 fn result(input: &Input, answer: &Answer) -> (u8, &'static str) {
     let ((number, fields, _), _) = answer;
     let detail = match number {

@@ -122,17 +122,21 @@ fn brute(case: &Input) -> Answer {
         }
         (11, &[needed]) => {
             let short = SearchRefusal::ListingBufferShort { needed };
-            ([0, 0, needed], Err(short))
+            // The length needed goes to the last total, and the others stay.
+            let [first, second, _] = case.totals;
+            ([first, second, needed], Err(short))
         }
         _ => {
             let why = Refusal::from_number(number).expect("a number of document 01");
+            // Any other refusal leaves all three.
             (case.totals, Err(SearchRefusal::Refused(why)))
         }
     };
     ((number, totals, after), typed)
 }
 
-/// The number, and of an accepted search how many windows are found; of a buffer that is too short whether by one entry.
+/// The number, and of an accepted search how many windows are found; of a buffer that is too short whether by one
+/// entry.
 fn result(input: &Input, answer: &Answer) -> (u8, &'static str) {
     let ((number, totals, after), _) = answer;
     let one_short = |length: usize, needed: usize| needed == length + 1;
@@ -175,7 +179,8 @@ fn mismatches(listing: &[u8]) -> (bool, bool) {
     }
 }
 
-/// What a case is counted by: how it was made, what is special about its sides, what came of it, and which mismatches it has.
+/// What a case is counted by: how it was made, what is special about its sides, what came of it, and which mismatches
+/// it has.
 type Kind = (
     &'static str,
     &'static str,

@@ -14,7 +14,8 @@ fn pattern(random: &mut Random) -> Vec<u8> {
     random.text(rows * columns)
 }
 
-/// A set's words, its size and its members, as they are taken: the lowest first, and then the lowest of the set without it.
+/// A set's words, its size and its members, as they are taken: the lowest first, and then the lowest of the set without
+/// it.
 type Answer = ([u64; 4], u32, Vec<u8>);
 
 fn proved(pattern: &[u8]) -> Answer {

@@ -241,7 +241,8 @@ impl TextAndPattern {
         after.listing
     }
 
-    /// Spoils text and pattern, or not, in each way by which they can be refused: several at once show the order of the refusals.
+    /// Spoils text and pattern, or not, in each way by which they can be refused: several at once show the order of the
+    /// refusals.
     pub fn spoil(&mut self, random: &mut Random) {
         if random.one_in(24) {
             self.height = random.choose(&[self.rows + 1, 2 * self.rows]);

@@ -1,5 +1,5 @@
-//! Document 01's drafts through the program. It prints the output of some in full; of the others, which it gives in part, the rest is
-//! found by hand from its rules.
+//! Document 01's drafts through the program. It prints the output of some in full; of the others, which it gives in
+//! part, the rest is found by hand from its rules.
 
 use crate::{input, lines, one_row, printed};
 

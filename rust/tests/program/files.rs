@@ -1,8 +1,7 @@
 //! The files of `drafts/`, as `drafts/README.md` makes them, through the program.
 
-use crate::run::output_of;
+use crate::run::{at_top, output_of};
 use std::fs;
-use std::path::PathBuf;
 use std::process::Command;
 
 /// The drafts, in the order of their names. Each has a file `NAME.in` and a file `NAME.out`.
@@ -19,11 +18,6 @@ const NAMES: [&str; 11] = [
     "table",
     "whole",
 ];
-
-/// A path below the repository's top.
-fn at_top(name: &str) -> PathBuf {
-    [env!("CARGO_MANIFEST_DIR"), "..", name].iter().collect()
-}
 
 fn bytes_of(name: &str) -> Vec<u8> {
     let path = at_top("drafts").join(name);

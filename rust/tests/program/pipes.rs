@@ -1,5 +1,5 @@
-//! How the program reads and writes: inputs without an end, slow writers and readers, and readers that go away. Outputs too long to type
-//! are compared with the brute force.
+//! How the program reads and writes: inputs without an end, slow writers and readers, and readers that go away.
+//! Outputs too long to type are compared with the brute force.
 
 use crate::input;
 use crate::run::{ended, feed, output_of, program};

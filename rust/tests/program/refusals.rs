@@ -2,7 +2,8 @@
 
 use crate::{input, printed};
 
-/// An input of these sides, as many cells of the text and as many of the pattern as the sides ask for, and what was given too much.
+/// An input of these sides, as many cells of the text and as many of the pattern as the sides ask for, and what was
+/// given too much.
 fn with_cells(sides: [u8; 4], too_many: usize) -> Vec<u8> {
     let [rows, columns, height, width] = sides.map(usize::from);
     let (text, pattern) = (vec![5; rows * columns], vec![9; height * width + too_many]);

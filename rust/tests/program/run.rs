@@ -1,7 +1,8 @@
 //! The compiled program, run on bytes.
 
 use std::io::{ErrorKind, Read, Write};
-use std::path::Path;
+use std::os::unix::process::CommandExt;
+use std::path::PathBuf;
 use std::process::{Child, ChildStdin, Command, ExitStatus, Stdio};
 use std::thread;
 use std::time::{Duration, Instant};
@@ -9,15 +10,25 @@ use std::time::{Duration, Instant};
 /// A run that takes longer counts as one that never ends. The longest takes some milliseconds.
 const PATIENCE: Duration = Duration::from_secs(60);
 
+/// A path below the repository's top.
+pub fn at_top(name: &str) -> PathBuf {
+    [env!("CARGO_MANIFEST_DIR"), "..", name].iter().collect()
+}
+
 /// The program, its input and output in pipes.
 pub fn program() -> Command {
-    let path = Path::new(env!("CARGO_MANIFEST_DIR")).join("../target/bin/colourway");
+    let path = at_top("target/bin/colourway");
     assert!(
         path.is_file(),
-        "There is no {}. Run `rt check colourway` at the repository's top first: it proves the program and compiles it.",
+        "There is no {}. Run `rt check colourway` at the repository's top first: it proves and compiles the program.",
         path.display()
     );
-    let mut command = Command::new(path);
+    piped(Command::new(path))
+}
+
+/// A command with its input and output in pipes, and in a group of processes of its own.
+pub fn piped(mut command: Command) -> Command {
+    command.process_group(0);
     command.stdin(Stdio::piped());
     command.stdout(Stdio::piped());
     command.stderr(Stdio::piped());
@@ -32,7 +43,12 @@ pub fn ended(child: &mut Child) -> ExitStatus {
             return status;
         }
         if start.elapsed() > PATIENCE {
-            child.kill().expect("an end of the run");
+            // With all that it started, which has its pipes too.
+            let group = child.id().to_string();
+            let killed = Command::new("sh")
+                .args(["-c", "kill -s KILL -- -$0", &group])
+                .status();
+            assert!(killed.expect("a run of the shell").success());
             panic!("the program did not end within {PATIENCE:?}");
         }
         thread::sleep(Duration::from_micros(200));
@@ -52,20 +68,45 @@ fn all_of(mut pipe: impl Read) -> Vec<u8> {
     bytes
 }
 
-/// What the program prints for an input. It ends without a fault, and leaves standard error empty.
-pub fn output_of(input: &[u8]) -> Vec<u8> {
-    let mut child = program().spawn().expect("a run of the program");
-    let mut stdin = child.stdin.take().expect("its standard input");
-    let stdout = child.stdout.take().expect("its standard output");
+/// A run that has ended: its status, and what it wrote to standard output and standard error.
+pub struct Run {
+    pub status: ExitStatus,
+    pub output: Vec<u8>,
+    pub said: String,
+}
+
+/// Runs a command on an input. An output that is not in a pipe counts as empty.
+pub fn run(command: &mut Command, input: &[u8]) -> Run {
+    finished(command.spawn().expect("a run"), input)
+}
+
+/// Feeds a run that has begun, unless its input is closed, and waits for its end.
+pub fn finished(mut child: Child, input: &[u8]) -> Run {
+    let stdin = child.stdin.take();
+    let stdout = child.stdout.take();
     let stderr = child.stderr.take().expect("its standard error");
     thread::scope(|scope| {
-        scope.spawn(move || feed(&mut stdin, input));
-        let printed = scope.spawn(|| all_of(stdout));
-        let complaints = scope.spawn(|| all_of(stderr));
+        scope.spawn(move || stdin.map(|mut stdin| feed(&mut stdin, input)));
+        let output = scope.spawn(|| stdout.map(all_of).unwrap_or_default());
+        let said = scope.spawn(|| all_of(stderr));
         let status = ended(&mut child);
-        let complaints = complaints.join().expect("its standard error");
-        assert_eq!(String::from_utf8_lossy(&complaints), "", "standard error");
-        assert!(status.success(), "the program ended with {status}");
-        printed.join().expect("its standard output")
+        let said = said.join().expect("its standard error");
+        Run {
+            status,
+            output: output.join().expect("its standard output"),
+            said: String::from_utf8(said).expect("words"),
+        }
     })
+}
+
+/// What the program prints for an input. It ends without a fault, and leaves standard error empty.
+pub fn output_of(input: &[u8]) -> Vec<u8> {
+    let run = run(&mut program(), input);
+    assert_eq!(run.said, "", "standard error");
+    assert!(
+        run.status.success(),
+        "the program ended with {}",
+        run.status
+    );
+    run.output
 }

@@ -54,7 +54,8 @@ impl Given {
         search.1[0]
     }
 
-    /// Compares with the brute force: a listing of this length is printed in full, or refused where it is longer than the buffer.
+    /// Compares with the brute force: a listing of this length is printed in full, or refused where it is longer than
+    /// the buffer.
     fn assert_listed(&self, length: usize) {
         assert_eq!(self.listing_length(), length);
         let output = output_of(&self.input());
@@ -76,9 +77,9 @@ fn middle_cells(number: usize) -> Vec<(usize, usize)> {
     (0..number).map(|row| (row, 2)).collect()
 }
 
-/// Pattern 1 1 on a text of 104 × 106 has 104 × 105 = 10,920 windows. A found one takes 6 bytes, a refused one 7, so that the listing has
-/// 6 × 10,920 + 5 = 65,525 bytes and one more for each refused window. A changed cell in the middle of a row spoils two windows, one at
-/// its end one.
+/// Pattern 1 1 on a text of 104 × 106 has 104 × 105 = 10,920 windows. A found one takes 6 bytes, a refused one 7, so
+/// that the listing has 6 × 10,920 + 5 = 65,525 bytes and one more for each refused window. A changed cell in the
+/// middle of a row spoils two windows, one at its end one.
 #[test]
 fn a_listing_of_65_536_bytes_is_printed_and_one_of_65_537_is_refused() {
     for (middle, end, length) in [
@@ -94,8 +95,9 @@ fn a_listing_of_65_536_bytes_is_printed_and_one_of_65_537_is_refused() {
     }
 }
 
-/// Pattern 1 2 matches no window of a constant text. A found window takes 9 bytes; a changed cell in the middle of a row makes two of
-/// them. 253 × 37 = 9,361 windows with 2 found are 9 × 2 + 7 × 9,359 + 5 = 65,536 bytes, 240 × 39 = 9,360 with 6 are 65,537.
+/// Pattern 1 2 matches no window of a constant text. A found window takes 9 bytes; a changed cell in the middle of a
+/// row makes two of them. 253 × 37 = 9,361 windows with 2 found are 9 × 2 + 7 × 9,359 + 5 = 65,536 bytes, 240 × 39 =
+/// 9,360 with 6 are 65,537.
 #[test]
 fn the_limit_counts_found_and_refused_windows() {
     let listed = |rows, columns, cells, length| {
@@ -122,8 +124,8 @@ pub fn long_output() -> Vec<u8> {
     all_found(2, 52).input()
 }
 
-/// A pair of three-digit symbols takes 10 bytes of output for its 3 of the listing. With 52 symbols two rows of 204 windows have
-/// 408 × (3 + 3 × 52) + 5 bytes of listing, with 53 symbols two of 203 have 406 × (3 + 3 × 53) + 5.
+/// A pair of three-digit symbols takes 10 bytes of output for its 3 of the listing. With 52 symbols two rows of 204
+/// windows have 408 × (3 + 3 × 52) + 5 bytes of listing, with 53 symbols two of 203 have 406 × (3 + 3 × 53) + 5.
 #[test]
 fn the_longest_outputs_are_printed_in_full() {
     all_found(2, 52).assert_listed(64_877);

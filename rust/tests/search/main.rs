@@ -1,5 +1,5 @@
-//! Document 01's drafts and misweaves of the search and the reader, run on the proved code. Every expected value is typed from document 01
-//! or found by hand; none comes from the brute force.
+//! Document 01's drafts and misweaves of the search and the reader, run on the proved code. Every expected value is
+//! typed from document 01 or found by hand; none comes from the brute force.
 
 mod reading;
 
@@ -159,8 +159,8 @@ fn sides_of_255_are_accepted() {
     assert_eq!(lines[2 * 254..], ["1 0 254", "2 9 5", "5 0 255 0 0"]);
 }
 
-/// The sides of a text and a pattern that are right but for one: 0 and 256 are refused by 2, whichever side has them. Text and pattern
-/// have as many cells as the bad sides ask for, and the buffers room, so that nothing else is wrong.
+/// The sides of a text and a pattern that are right but for one: 0 and 256 are refused by 2, whichever side has them.
+/// Text and pattern have as many cells as the bad sides ask for, and the buffers room, so that nothing else is wrong.
 #[test]
 fn sides_of_0_and_256_are_refused() {
     for bad in [0, 256] {
@@ -194,8 +194,8 @@ fn a_pattern_as_large_as_the_text_has_one_window() {
     assert_eq!(lines, ["3 0 0 0 0 254 254", "5 0 0 0 1"]);
 }
 
-/// One input that earns every refusal at once, mended step by step, meets them in document 01's order. A refusal but the last changes
-/// nothing, the totals included.
+/// One input that earns every refusal at once, mended step by step, meets them in document 01's order. A refusal but
+/// the last changes nothing, the totals included; the last writes the length needed and leaves the other totals.
 #[test]
 fn refusals_come_in_order() {
     let number = |cells: usize, rows, pattern_cells: usize, height, mut lent: Lent| {
@@ -219,6 +219,7 @@ fn refusals_come_in_order() {
         (number, totals)
     };
     let untouched = [usize::from(NOISE); 3];
+    let needed = [usize::from(NOISE), usize::from(NOISE), 21];
     assert_eq!(number(5, 2, 5, 0, Lent::of(3, 1, 1, 0)), (2, untouched));
     assert_eq!(number(5, 256, 5, 3, Lent::of(3, 1, 1, 0)), (2, untouched));
     assert_eq!(number(5, 2, 5, 3, Lent::of(3, 1, 1, 0)), (3, untouched));
@@ -229,11 +230,12 @@ fn refusals_come_in_order() {
     assert_eq!(number(6, 2, 4, 2, Lent::of(4, 1, 1, 0)), (10, untouched));
     assert_eq!(number(6, 2, 4, 2, Lent::of(4, 2, 1, 0)), (10, untouched));
     assert_eq!(number(6, 2, 4, 2, Lent::of(4, 1, 2, 0)), (10, untouched));
-    assert_eq!(number(6, 2, 4, 2, Lent::of(4, 2, 2, 0)), (11, [0, 0, 21]));
+    assert_eq!(number(6, 2, 4, 2, Lent::of(4, 2, 2, 0)), (11, needed));
     assert_eq!(number(6, 2, 4, 2, Lent::of(4, 2, 2, 21)), (0, [1, 1, 21]));
 }
 
-/// Misweave 1: using a link whose far end lies above the window's top row. The 4 of the second window has another above it.
+/// Misweave 1: using a link whose far end lies above the window's top row. The 4 of the second window has another above
+/// it.
 #[test]
 fn what_lies_above_the_window_is_not_looked_at() {
     let (_, lines) = listed((&[4, 4, 5], 3, 1), (&[1, 2], 2, 1));

@@ -115,8 +115,8 @@ pub fn other_kind(
     Some(entries.bytes())
 }
 
-/// Moves a cell of a mismatch out of the pattern: just past its last row or column, by its height or width, or so that the position
-/// row × width + column stays the same. Nothing is done where no byte has such a number.
+/// Moves a cell of a mismatch out of the pattern: just past its last row or column, by its height or width, or so that
+/// the position row × width + column stays the same. Nothing is done where no byte has such a number.
 pub fn cell_outside(
     random: &mut Random,
     given: &mut TextAndPattern,
@@ -153,7 +153,8 @@ pub fn any_two_cells(
     Some(entries.bytes())
 }
 
-/// Lists a refused window as found, each symbol of the pattern with the window's symbol in its first or its last cell, and counts it so.
+/// Lists a refused window as found, each symbol of the pattern with the window's symbol in its first or its last cell,
+/// and counts it so.
 pub fn found_for_refused(
     random: &mut Random,
     given: &mut TextAndPattern,
