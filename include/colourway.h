@@ -34,10 +34,11 @@
  *     all others                                             256 bytes
  *
  * The search takes about that much whatever the size of its text, and also where it refuses. The figures are measured
- * and not proved: the lowest byte touched of a painted stack, over texts and patterns from 1 by 1 to 255 by 255 and
- * over refused calls, rounded up. A test runs every operation in a thread of 64 KiB. What memcpy and memset take is in
- * them, but not the 4 KiB that the dynamic linker takes once, at the first call of either, in a program that binds
- * lazily (-Wl,-z,now spares them).
+ * and not proved: the lowest byte touched of a painted stack, rounded up. Those of search, check and one_window are
+ * from texts of 255 by 255 of six kinds and patterns with sides 1, 2, 64 and 255, and of the search refused by 2; the
+ * others from texts and patterns from 1 by 1 to 255 by 255 and from refused calls. A test runs every operation in a
+ * thread of 64 KiB. What memcpy and memset take is in them, but not the 4 KiB that the dynamic linker takes once, at
+ * the first call of either, in a program that binds lazily (-Wl,-z,now spares them).
  *
  * The first draft of document 01, in full:
  *
