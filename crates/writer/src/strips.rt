@@ -8,7 +8,7 @@ ghost use Rattle.grid.specs.Distinct.{distinct};
 ghost use Rattle.sweep.specs.Sweep.{SweepAt};
 ghost use Rattle.listing.specs.Entries.Put.{Heads, Puts, startOf};
 ghost use Rattle.writer.specs.Listing.Windows.{Flagged};
-ghost use Rattle.writer.specs.Listing.Strips.{pieceOf, RefusedAt, RefusedIn};
+ghost use Rattle.writer.specs.Listing.Strips.{pieceOf, RefusedHere, RefusedIn};
 use crate::entries::write_refused;
 use grid::strips::Strip;
 use reach::places::first_places;
@@ -46,7 +46,7 @@ fn write_strip(
         (now (heads .exit)) ⌝ }
     ensures { λ r. ⌜
         Puts (pieceOf (now (text .entry)) (now (pattern .entry)) s) (down s * across s)
-        (RefusedAt (now (flags .entry)) (across s) left (down s)) (now (listing .entry)) (now (listing .exit)) ⌝ }
+        (RefusedHere (now (flags .entry)) (across s) left (down s)) (now (listing .entry)) (now (listing .exit)) ⌝ }
 {
     let wide = s.columns + 1 - s.width;
     let tall = s.rows + 1 - s.height;

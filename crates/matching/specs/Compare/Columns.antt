@@ -101,8 +101,8 @@ module _ (m w : ℕ → ℕ) (n : ℕ) (key : ℕ → ℕ) where
 
 -- ---- both columns
 
-pub pairs-none : (m w : ℕ → ℕ) (n : ℕ) (f g : List ℕ) → f ≡ noImages → g ≡ noImages → PairsTo m w n 0 f g
-pairs-none m w n f g e d =
+pub match-pairs-none : (m w : ℕ → ℕ) (n : ℕ) (f g : List ℕ) → f ≡ noImages → g ≡ noImages → PairsTo m w n 0 f g
+match-pairs-none m w n f g e d =
     record { forward = column-empty m w n (λ a. a) f e; backward = column-empty w m n (imageOf w m n) g d }
 
 pub pairs-all : (m w : ℕ → ℕ) (n k : ℕ) (f g : List ℕ) → ((p : ℕ) → m p < 256) → k ≡ 256 → PairsTo m w n k f g

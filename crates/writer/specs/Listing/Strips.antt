@@ -50,7 +50,7 @@ pub record FoundIn (flags : List ℕ) (from to k : ℕ) : Type 0 where
   pub found : getD flags k 0 ≡ 1
 
 -- window k is in one of the first n rows of column left, and its flag does not say found
-pub record RefusedAt (flags : List ℕ) (wide left n k : ℕ) : Type 0 where
+pub record RefusedHere (flags : List ℕ) (wide left n k : ℕ) : Type 0 where
   pub row : ℕ
   pub above : row < n
   pub place : k ≡ row * wide + left
@@ -60,7 +60,7 @@ pub record RefusedAt (flags : List ℕ) (wide left n k : ℕ) : Type 0 where
 pub record RefusedIn (flags : List ℕ) (wide tall left k : ℕ) : Type 0 where
   pub column : ℕ
   pub beside : column < left
-  pub at-column : RefusedAt flags wide column tall k
+  pub at-column : RefusedHere flags wide column tall k
 
 -- the window at row top of the strip at column left
 abbrev pub stripWindow : Shape → ℕ → ℕ → WindowPlace
@@ -115,15 +115,15 @@ module _ (piece : ℕ → List ℕ) (size : ℕ) (flags : List ℕ) where
 
   -- the refused ones down a column
   module _ (wide left : ℕ) where
-    pub column-refused-none : (l : List ℕ) → Puts piece size (RefusedAt flags wide left 0) l l
-    column-refused-none l = puts-none piece size (RefusedAt flags wide left 0) l (λ k f. none k f)
+    pub column-refused-none : (l : List ℕ) → Puts piece size (RefusedHere flags wide left 0) l l
+    column-refused-none l = puts-none piece size (RefusedHere flags wide left 0) l (λ k f. none k f)
       where
-        none : (k : ℕ) → RefusedAt flags wide left 0 k → ⊥
+        none : (k : ℕ) → RefusedHere flags wide left 0 k → ⊥
         none k f = omega (arith, f .above)
 
-    module _ (old l : List ℕ) (top : ℕ) (p : Puts piece size (RefusedAt flags wide left top) old l) where
-      above-or : (j : ℕ) (g : RefusedAt flags wide left (top + 1) j) {b : Bool} → Tested (g .row ≡ top) b
-          → RefusedAt flags wide left top j ⊎ (j ≡ top * wide + left)
+    module _ (old l : List ℕ) (top : ℕ) (p : Puts piece size (RefusedHere flags wide left top) old l) where
+      above-or : (j : ℕ) (g : RefusedHere flags wide left (top + 1) j) {b : Bool} → Tested (g .row ≡ top) b
+          → RefusedHere flags wide left top j ⊎ (j ≡ top * wide + left)
       above-or j g (holds d) = inr (g .place ∙ ap (λ (i : ℕ). i * wide + left) d)
       above-or j g (fails d) =
           inl
@@ -131,18 +131,18 @@ module _ (piece : ℕ → List ℕ) (size : ℕ) (flags : List ℕ) where
 
       pub column-refused : startOf piece size ≤ length old → (at : ℕ) (xs new : List ℕ) → top * wide + left < size
           → at ≡ startOf piece (top * wide + left) → xs ≡ piece (top * wide + left) → new ≡ written l at xs
-          → Puts piece size (RefusedAt flags wide left (top + 1)) old new
+          → Puts piece size (RefusedHere flags wide left (top + 1)) old new
       column-refused room at xs new h a x e =
-          puts-more piece size (RefusedAt flags wide left top) old l room p (RefusedAt flags wide left (top + 1))
+          puts-more piece size (RefusedHere flags wide left top) old l room p (RefusedHere flags wide left (top + 1))
           (top * wide + left) at xs new h a x e (λ j b g. above-or j g (eq-tested (g .row) top))
 
       pub column-found : getD flags (top * wide + left) 0 ≡ 1
-          → Puts piece size (RefusedAt flags wide left (top + 1)) old l
+          → Puts piece size (RefusedHere flags wide left (top + 1)) old l
       column-found f =
-          puts-same piece size (RefusedAt flags wide left top) (RefusedAt flags wide left (top + 1)) old l p
+          puts-same piece size (RefusedHere flags wide left top) (RefusedHere flags wide left (top + 1)) old l p
           (λ j b g. ⊎-elim (λ a. a) (λ e. absurd (not-here j g e)) (above-or j g (eq-tested (g .row) top)))
         where
-          not-here : (j : ℕ) → RefusedAt flags wide left (top + 1) j → j ≡ top * wide + left → ⊥
+          not-here : (j : ℕ) → RefusedHere flags wide left (top + 1) j → j ≡ top * wide + left → ⊥
           not-here j g e = g .refused (ap (λ (i : ℕ). getD flags i 0) e ∙ f)
 
   -- and column by column
@@ -154,15 +154,15 @@ module _ (piece : ℕ → List ℕ) (size : ℕ) (flags : List ℕ) where
         none k f = omega (arith, f .beside)
 
     pub columns-more : (old l new : List ℕ) (left : ℕ) → Puts piece size (RefusedIn flags wide tall left) old l
-        → Puts piece size (RefusedAt flags wide left tall) l new
+        → Puts piece size (RefusedHere flags wide left tall) l new
         → Puts piece size (RefusedIn flags wide tall (left + 1)) old new
     columns-more old l new left p q =
-        puts-then piece size (RefusedIn flags wide tall left) (RefusedAt flags wide left tall)
+        puts-then piece size (RefusedIn flags wide tall left) (RefusedHere flags wide left tall)
         (RefusedIn flags wide tall (left + 1)) old l new p q (λ j b g. which j g (eq-tested (g .column) left))
       where
         which : (j : ℕ) (g : RefusedIn flags wide tall (left + 1) j) {b : Bool} → Tested (g .column ≡ left) b
-            → RefusedIn flags wide tall left j ⊎ RefusedAt flags wide left tall j
-        which j g (holds d) = inr (subst (λ (i : ℕ). RefusedAt flags wide i tall j) d (g .at-column))
+            → RefusedIn flags wide tall left j ⊎ RefusedHere flags wide left tall j
+        which j g (holds d) = inr (subst (λ (i : ℕ). RefusedHere flags wide i tall j) d (g .at-column))
         which j g (fails d) =
             inl (record { column = g .column; beside = omega (arith, g .beside); at-column = g .at-column })
 

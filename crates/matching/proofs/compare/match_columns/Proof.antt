@@ -5,7 +5,7 @@ use native.Mathlib.Omega.{arith}
 use lib.ListN.{getD}
 use denote.Ref.{now}
 use Rattle.matching.specs.Compare.{patternAt, windowOf, cellCount}
-use Rattle.matching.specs.Compare.Columns.{PairsTo, pairs-none, pairs-all}
+use Rattle.matching.specs.Compare.Columns.{PairsTo, match-pairs-none, pairs-all}
 use Rattle.matching.proofs.compare.match_columns.Statement.{statement}
 use Rattle.matching.proofs.compare.match_columns.Tie as tie
 
@@ -17,7 +17,7 @@ abbrev μ-loop : tie.MeasureT-loop
 μ-loop text v pattern first forward₀ backward₀ a₀ forward backward a = 256 - a
 
 loop-holds : tie.Need-loop-holds Inv-loop μ-loop
-loop-holds c = let o = c .before .before in (omega arith, pairs-none _ _ _ _ _ (o .pre .1) (o .pre .2))
+loop-holds c = let o = c .before .before in (omega arith, match-pairs-none _ _ _ _ _ (o .pre .1) (o .pre .2))
 
 pair-symbol-requires : tie.Need-pair-symbol-requires Inv-loop μ-loop
 pair-symbol-requires c κs =

@@ -16,7 +16,7 @@ use Rattle.sweep.specs.Sweep.Runs.{columnStrip, run-first, run-asks, run-more, 
 use Rattle.listing.specs.Entries.Put.{startOf, HeadsTo, Puts, puts-room, column-none, column-here, column-more}
 use Rattle.listing.specs.Entries.Put.{column-over}
 use Rattle.writer.specs.Listing.Windows.{unmatched}
-use Rattle.writer.specs.Listing.Strips.{pieceOf, RefusedAt, column-refused-none, column-refused, column-found}
+use Rattle.writer.specs.Listing.Strips.{pieceOf, RefusedHere, column-refused-none, column-refused, column-found}
 use Rattle.writer.specs.Listing.Strips.{found-length, found-small, strip-window, strip-piece, strip-ended}
 use Rattle.writer.proofs.strips.write_strip.Statement.{statement}
 use Rattle.writer.proofs.strips.write_strip.Tie as tie
@@ -31,7 +31,7 @@ Inv-loop text pattern s left flags size first selves earlies heads₀ listing₀
     listing last row reached top =
     (top ≤ tall) × RunAt text (columnStrip s left) pattern last row reached top (s .height)
     × HeadsTo (pieceOf text pattern s) (across s) (down s) left top heads ×
-    Puts (pieceOf text pattern s) (down s * across s) (RefusedAt flags (across s) left top) listing₀ listing
+    Puts (pieceOf text pattern s) (down s * across s) (RefusedHere flags (across s) left top) listing₀ listing
 
 abbrev μ-loop : tie.MeasureT-loop
 μ-loop text pattern s left flags size first selves earlies heads₀ listing₀ wide tall t last₀ row₀ reached₀ top₀ heads
@@ -270,7 +270,7 @@ returns c = let o = c .before .before .before .before .before .before .before .b
     let e : l .top ≡ down (a .s) = omega (arith, c .loop-test .left, l .inv .0) in (
       column-over _ _ _ _ (l .top) (l .heads) (l .inv .2) (omega (arith, e)),
       subst (λ (n : ℕ). Puts (pieceOf (now (a .text)) (now (a .pattern)) (a .s)) (down (a .s) * across (a .s))
-          (RefusedAt (now (a .flags)) (across (a .s)) (a .left) n) (now (a .listing)) (l .listing)) e (l .inv .3),
+          (RefusedHere (now (a .flags)) (across (a .s)) (a .left) n) (now (a .listing)) (l .listing)) e (l .inv .3),
     )
 
 pub write-strip-spec : {M : Type 1} → statement M
