@@ -1,0 +1,221 @@
+//! Both programs on one input: first whether they agree, then how long they take.
+
+use crate::input::Input;
+use crate::plain;
+use colourway::{distinct_counts, strip_links, Buffers, Checked, SearchRefusal, Symbols, Totals};
+use std::time::{Duration, Instant};
+
+/// Each class is measured at least so many times and at least so long.
+pub const ROUNDS: u32 = 9;
+pub const LEAST: Duration = Duration::from_millis(200);
+
+/// The buffers of a search, which own what they lend.
+#[derive(Clone, PartialEq)]
+pub struct Lent {
+    links: Vec<u16>,
+    counts: Vec<u16>,
+    flags: Vec<u8>,
+    listing: Vec<u8>,
+}
+
+impl Lent {
+    /// Buffers as long as the search needs them, but for the listing, which has this length. They hold noise.
+    fn of(input: &Input, listing: usize) -> Lent {
+        Lent {
+            links: vec![0xA5A5; input.rows * input.width],
+            counts: vec![0xA5A5; input.windows()],
+            flags: vec![0xA5; input.windows()],
+            listing: vec![0xA5; listing],
+        }
+    }
+
+    fn lend(&mut self) -> Buffers<'_> {
+        Buffers {
+            links: &mut self.links,
+            counts: &mut self.counts,
+            flags: &mut self.flags,
+            listing: &mut self.listing,
+        }
+    }
+}
+
+/// The proved search.
+pub fn proved(input: &Input, lent: &mut Lent) -> Result<Totals, SearchRefusal> {
+    colourway::search(
+        &input.text,
+        input.rows,
+        input.columns,
+        &input.pattern,
+        input.height,
+        input.width,
+        lent.lend(),
+    )
+}
+
+/// The proved counts.
+fn proved_counts(input: &Input, counts: &mut [u16]) {
+    distinct_counts(
+        &input.text,
+        input.rows,
+        input.columns,
+        input.height,
+        input.width,
+        counts,
+    )
+    .expect("the counts of all windows");
+}
+
+/// The proved check of a listing, which it accepts.
+fn checked(input: &Input, listing: &[u8]) -> Checked {
+    colourway::check(
+        &input.text,
+        input.rows,
+        input.columns,
+        &input.pattern,
+        input.height,
+        input.width,
+        listing,
+    )
+    .expect("the listing is the search's")
+}
+
+/// Two sets of buffers after a proved search: with room for the listing, and with a byte too few.
+pub struct Searched {
+    pub totals: Totals,
+    pub full: Lent,
+    pub short: Lent,
+}
+
+/// Fails unless the two programs agree on the input: the answer and every buffer, with room for the listing and with
+/// one byte too few, and the counts alone; and unless the check accepts the listing.
+pub fn compare(input: &Input) -> Searched {
+    let Err(SearchRefusal::ListingBufferShort { needed }) = proved(input, &mut Lent::of(input, 0))
+    else {
+        panic!("a search with no room for its listing is refused by 11");
+    };
+    let [(answer, full), (refused, short)] = [needed, needed - 1].map(|length| {
+        let mut by_proof = Lent::of(input, length);
+        let mut by_plain = by_proof.clone();
+        let answer = proved(input, &mut by_proof);
+        assert_eq!(answer, plain::search(input, by_plain.lend()));
+        assert!(by_proof == by_plain, "the buffers differ");
+        (answer, by_proof)
+    });
+    assert_eq!(refused, Err(SearchRefusal::ListingBufferShort { needed }));
+    let mut counts = vec![0xA5A5; input.windows()];
+    proved_counts(input, &mut counts);
+    assert!(counts == full.counts, "the counts differ");
+    let totals = answer.expect("there is room for everything");
+    let Checked { found, refused } = checked(input, &full.listing);
+    assert_eq!((found, refused), (totals.found, totals.refused));
+    Searched {
+        totals,
+        full,
+        short,
+    }
+}
+
+/// What the plain comparison goes through in the windows, which is counted and not timed.
+pub struct Walk {
+    /// How many cells of a window it looks at, on average, as a share of the pattern's.
+    pub share: f64,
+    /// The strips, by their first columns, that the proved search may make links of: those with a window that has as
+    /// many symbols as the pattern and agrees with it in its first row. The search looks at more than that, and links
+    /// fewer.
+    linked: Vec<usize>,
+}
+
+/// Walks through the windows as the plain program does.
+pub fn walk(input: &Input, searched: &Searched) -> Walk {
+    let mismatches = plain::mismatches(input, &plain::first_cells(input));
+    let cells = input.pattern.len();
+    let last = |mismatch: &Option<plain::Mismatch>| mismatch.map(|m| m.later);
+    let looked_at = mismatches.iter().map(|mismatch| match last(mismatch) {
+        None => cells,
+        Some((i, j)) => usize::from(i) * input.width + usize::from(j) + 1,
+    });
+    let size = Symbols::of(&input.pattern).size();
+    let wanted = |window: usize| {
+        u32::from(searched.full.counts[window]) == size
+            && !matches!(last(&mismatches[window]), Some((0, _)))
+    };
+    let across = input.across();
+    Walk {
+        share: looked_at.sum::<usize>() as f64 / (mismatches.len() * cells) as f64,
+        linked: (0..across)
+            .filter(|left| (*left..mismatches.len()).step_by(across).any(wanted))
+            .collect(),
+    }
+}
+
+/// The best times of a class.
+pub struct Times {
+    pub plain: Duration,
+    pub plain_counts: Duration,
+    /// The proved search.
+    pub search: Duration,
+    pub counts: Duration,
+    pub links: Duration,
+    /// A proved search that has no room for the last byte of its listing, and so writes none.
+    pub unlisted: Duration,
+    /// The proved check of the listing that the proved search wrote.
+    pub check: Duration,
+    pub rounds: u32,
+}
+
+/// How long this takes, where it is less than the best so far.
+pub fn time<T>(best: &mut Duration, run: impl FnOnce() -> T) {
+    let start = Instant::now();
+    let answer = run();
+    *best = start.elapsed().min(*best);
+    std::hint::black_box(answer);
+}
+
+/// Links alone, of the strips of which the search makes them.
+fn make_links(input: &Input, walk: &Walk, links: &mut [u16]) {
+    let &Input {
+        ref text,
+        rows,
+        columns,
+        width,
+        ..
+    } = input;
+    for &left in &walk.linked {
+        strip_links(text, rows, columns, width, left, links).expect("the links of a strip");
+    }
+}
+
+/// Measures all that is compared in turn, round after round.
+pub fn measure(input: &Input, searched: Searched, walk: &Walk) -> Times {
+    let Searched { full, short, .. } = searched;
+    let [mut by_plain, mut by_proof, mut unlisted, mut alone] =
+        [full.clone(), full.clone(), short, full.clone()];
+    let mut times = Times {
+        plain: Duration::MAX,
+        plain_counts: Duration::MAX,
+        search: Duration::MAX,
+        counts: Duration::MAX,
+        links: Duration::MAX,
+        unlisted: Duration::MAX,
+        check: Duration::MAX,
+        rounds: 0,
+    };
+    let start = Instant::now();
+    while times.rounds < ROUNDS || start.elapsed() < LEAST {
+        time(&mut times.plain, || plain::search(input, by_plain.lend()));
+        time(&mut times.search, || proved(input, &mut by_proof));
+        time(&mut times.plain_counts, || {
+            plain::counts(input, &mut alone.counts)
+        });
+        time(&mut times.counts, || {
+            proved_counts(input, &mut alone.counts)
+        });
+        time(&mut times.links, || {
+            make_links(input, walk, &mut alone.links)
+        });
+        time(&mut times.unlisted, || proved(input, &mut unlisted));
+        time(&mut times.check, || checked(input, &full.listing));
+        times.rounds += 1;
+    }
+    times
+}
