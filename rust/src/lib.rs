@@ -86,7 +86,7 @@
 //!
 //! | Operation | Stack |
 //! |---|---|
-//! | [`search`], [`check`] | 14 KiB |
+//! | [`search`], [`check`] | 15 KiB |
 //! | [`one_window`] | 7 KiB |
 //! | [`Bijection::compose`] | 6 KiB |
 //! | [`Bijection::pair`] | 4 KiB |

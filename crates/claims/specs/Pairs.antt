@@ -1,6 +1,7 @@
 -- What the reading of pairs needs and keeps: the window that stands as found, and the marks of the symbols given so
 -- far.
 -- Assumes nothing.
+pub mod Plain
 pub mod Reading
 pub mod Rising
 use mathlib.Core.Path.{_≡_, sym, _∙_, ap}
@@ -19,7 +20,7 @@ use Rattle.shapes.specs.declared.windows.WindowPlace.{WindowPlace}
 use Rattle.theory.specs.Test.{pick, both, Tested, holds, fails}
 use Rattle.theory.specs.Test.Laws.{eq-tested, lt-tested, tested-iff, tested-same, is-true, is-false, says-true}
 use Rattle.theory.specs.First.Laws.{every-tested}
-use Rattle.claims.specs.Carries.{Carried}
+use Rattle.carrying.specs.Carries.{Carried}
 use Rattle.claims.specs.Claims.{orStop, byteAt, stands, hasImage, rightPair}
 use Rattle.claims.specs.declared.walks.Walk.the-variants.{Goes}
 use Rattle.claims.specs.declared.walks.Walk.{Walk}

@@ -1,7 +1,5 @@
 // Whether what a record of a listing claims of its window is true: pairs and mismatches. Parts of the check, and no
 // operations of their own.
-mod carries;
-mod inherit;
 pub mod mismatches;
 pub mod pairs;
 pub mod walks;

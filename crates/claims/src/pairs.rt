@@ -1,18 +1,19 @@
 // The pairs of a found window, each against all cells of its symbol.
 ghost use mathlib.Core.Path.{_≡_};
-ghost use mathlib.Core.Bool.{true};
+ghost use mathlib.Core.Bool.{true, false};
 ghost use mathlib.Core.List.{List, []};
-ghost use Prim.Native.Nat.{ℕ, _+_, _≤_};
+ghost use Prim.Native.Nat.{ℕ, _+_, _*_, _≤_};
 ghost use lib.ListN.{length};
 ghost use Rattle.theory.specs.Older.{Older};
 ghost use Rattle.grid.specs.Distinct.{contains};
 ghost use Rattle.sets.specs.Symbols.{symbolsOf};
 ghost use Rattle.matching.specs.Compare.{patternAt, windowOf, cellCount, Placed};
 ghost use Rattle.claims.specs.Claims.{hasImage, pairsFrom};
-ghost use Rattle.claims.specs.Inheritance.{Above};
+ghost use Rattle.carrying.specs.Inheritance.{Above};
 ghost use Rattle.claims.specs.Pairs.{FoundWindow, Marked, PairRead};
-use crate::carries::carries;
+ghost use Rattle.claims.specs.Pairs.Plain.{PlainPair, PlainTo};
 use crate::walks::Walk;
+use carrying::carries::carries;
 use listing::reader::Cursor;
 use listing::reader::Read;
 use listing::records::Record;
@@ -107,7 +108,83 @@ fn read_pair(
     Walk::Goes(next.at)
 }
 
-// A pair for each symbol of the pattern, rising. The symbols are listed once for all windows.
+// The pair at a place as nearly every pair is: the wanted symbol, with its image, which no pair before it gave. It is
+// marked then. What says false here decides nothing: the pair is then read with all that can be wrong with it.
+fn plain_pair(
+    base: u32,
+    images: &[u32],
+    given: &mut [u32; 256],
+    a: u8,
+    listing: &[u8],
+    at: usize,
+) -> bool
+    requires { ⌜
+        (length (now images) ≡ 256) × (length (now given) ≡ 256) × (base ≤ 16777216)
+        × (at + 3 ≤ length (now listing)) ⌝ }
+    ensures { λ r. ⌜
+        (r ≡ true → PlainPair base (now (images .entry)) (now (given .entry)) a (now (listing .entry)) at
+        (now (given .exit))) ⌝ }
+    ensures { λ r. ⌜ (r ≡ false → now (given .exit) ≡ now (given .entry)) ⌝ }
+{
+    if listing[at] != 2 {
+        return false;
+    }
+    if listing[at + 1] != a {
+        return false;
+    }
+    let b = listing[at + 2];
+    let image = images[a as usize];
+    let wanted = base + b as u32;
+    if image != wanted {
+        return false;
+    }
+    if given[b as usize] == base {
+        return false;
+    }
+    given[b as usize] = base;
+    true
+}
+
+// How many pairs are plain, from the first on, in a window that the images carry: all of them, unless something is
+// wrong. So the usual pair costs no reading of a record and no choice between refusals.
+fn plain_pairs(
+    carried: bool,
+    base: u32,
+    images: &[u32],
+    given: &mut [u32; 256],
+    symbols: &[u8],
+    listing: &[u8],
+    at: usize,
+) -> usize
+    requires { ⌜ (length (now images) ≡ 256) × (length (now given) ≡ 256) × (base ≤ 16777216) ⌝ }
+    ensures { λ r. ⌜
+        PlainTo carried base (now (images .entry)) (now (symbols .entry)) (now (listing .entry)) at
+        (now (given .entry)) r (at + 3 * r) (now (given .exit)) ⌝ }
+    ensures { λ r. ⌜ at + 3 * r ≤ 18446744073709551615 ⌝ }
+{
+    let n = symbols.len();
+    if !carried {
+        return 0;
+    }
+    if listing.len() < at {
+        return 0;
+    }
+    if (listing.len() - at) / 3 < n {
+        return 0;
+    }
+    let mut end = at;
+    let mut k = 0;
+    while k < n {
+        if !plain_pair(base, images, given, symbols[k], listing, end) {
+            return k;
+        }
+        end += 3;
+        k += 1;
+    }
+    k
+}
+
+// A pair for each symbol of the pattern, rising: the plain ones first. The symbols are listed once for all windows.
 fn read_pairs(
     text: &[u8],
     v: WindowPlace,
@@ -128,8 +205,8 @@ fn read_pairs(
         (now (listing .entry)) (symbolsOf (now (pattern .entry))) [] at ⌝ }
     ensures { λ r. ⌜ Older (base + 256) (now (given .exit)) ⌝ }
 {
-    let mut end = at;
-    let mut i = 0;
+    let mut i = plain_pairs(carried, base, images, given, symbols, listing, at);
+    let mut end = at + 3 * i;
     while i < symbols.len() {
         let a = symbols[i];
         let step = read_pair(
@@ -162,7 +239,7 @@ pub fn found_pairs(
     base: u32,
     images: &mut [u32; 256],
     given: &mut [u32; 256],
-    first: &mut [usize; 256],
+    offsets: &mut [usize; 256],
     selves: &mut [usize; 256],
     tops: &mut [usize; 256],
     listing: &[u8],
@@ -171,17 +248,27 @@ pub fn found_pairs(
     requires { ⌜
         Placed (now text) v × (length (now pattern) ≡ cellCount v) × (now symbols ≡ symbolsOf (now pattern))
         × (length (now images) ≡ 256) × Older base (now given) × (base ≤ 16777216)
-        × Above (now text) (now pattern) (v .columns) (v .height) (v .width) (now first) (now selves) (now tops) ⌝ }
+        × Above (now text) (now pattern) (v .columns) (v .height) (v .width) (now offsets) (now selves) (now tops) ⌝ }
     ensures { λ r. ⌜
         r ≡ pairsFrom (patternAt (now (pattern .entry))) (windowOf (now (text .entry)) v) (cellCount v)
         (now (listing .entry)) (symbolsOf (now (pattern .entry))) [] at ⌝ }
     ensures { λ r. ⌜ Older (base + 256) (now (given .exit)) ⌝ }
     ensures { λ r. ⌜ length (now (images .exit)) ≡ 256 ⌝ }
     ensures { λ r. ⌜
-        Above (now (text .entry)) (now (pattern .entry)) (v .columns) (v .height) (v .width) (now (first .exit))
+        Above (now (text .entry)) (now (pattern .entry)) (v .columns) (v .height) (v .width) (now (offsets .exit))
         (now (selves .exit)) (now (tops .exit)) ⌝ }
 {
-    let carried = carries(text, v, pattern, symbols, base, images, first, selves, tops);
+    let carried = carries(
+        text,
+        v,
+        pattern,
+        symbols,
+        base,
+        images,
+        offsets,
+        selves,
+        tops,
+    );
     read_pairs(
         text,
         v,

@@ -1,27 +1,29 @@
 // The flags of the windows, as document 004 finds them: a window's distinct count first, then the links of its strip.
+// Ours are the sieve that spares strips their links, and what a window inherits from the one compared before it.
 ghost use mathlib.Core.Path.{_≡_};
 ghost use Prim.Native.Nat.{_+_, _*_, _≤_, _<_};
-ghost use lib.ListN.{length};
+ghost use lib.ListN.{length, getD, replicate};
+ghost use Rattle.prefixes.specs.State.{FirstPlaces};
+ghost use Rattle.grid.specs.Distinct.{distinct};
 ghost use Rattle.theory.specs.Store.{stored, storedRows};
 ghost use Rattle.shapes.specs.Shapes.{ShapeOf, across, down};
 ghost use Rattle.flags.specs.Flags.{Room, RoomFor, rooms, working, marked};
 ghost use Rattle.shapes.specs.Questions.{asked};
 ghost use Rattle.flags.specs.Flags.Strips.{flagOf, Ready};
-ghost use Rattle.flags.specs.Flags.Rows.{RowAsked, RowTold, RowsAsked, StripDiffers};
-ghost use mathlib.Core.Bool.{false};
 ghost use Rattle.flags.specs.Flags.Links.{RestKept};
 ghost use Rattle.flags.specs.Flags.Windows.{Own, StripFlagged};
-ghost use Rattle.sweep.specs.Sweep.{SidesOf};
+ghost use Rattle.sieve.specs.Pairs.{AlikePairs};
 use crate::run::next_flag;
 use grid::counts::distinct_counts;
 use grid::strips::Strip;
 use grid::strips::strip_links;
-use reach::places::first_places;
 use reach::places::no_positions;
-use reach::reach::reach;
-use sets::symbols::pattern_size;
 use shapes::shapes::Shape;
+use sieve::pairs::alike_pairs;
+use sieve::pairs::no_offsets;
+use sieve::wanted::wanted;
 use sweep::own::own_ends;
+use sweep::own::own_rows;
 
 // The flags of the windows at column left, from the top down, each with what the last one that was compared says of it.
 fn flag_strip(
@@ -37,7 +39,7 @@ fn flag_strip(
 )
     requires { ⌜
         Room (s .rows * s .columns) (length (now pattern)) s (length (now links)) (length (now counts))
-        (length (now flags)) × (left < across s) × Own (now pattern) (s .width) (now first) (now selves) ⌝ }
+        (length (now flags)) × (left < across s) × Own (now pattern) (s .width) (down s) (now first) (now selves) ⌝ }
     ensures { λ r. ⌜
         StripFlagged (now (pattern .entry)) symbols s left (now (counts .entry)) (now (links .entry))
         (now (flags .entry)) (now (flags .exit)) ⌝ }
@@ -68,75 +70,6 @@ fn flag_strip(
     }
 }
 
-// Whether the window at row top may match: it has the right count, and agrees with the pattern in its first row. The
-// table has last places above the window, and afterwards those of its first row as well.
-fn may_match(
-    text: &[u8],
-    pattern: &[u8],
-    first: &[usize; 256],
-    last: &mut [usize; 256],
-    symbols: u16,
-    count: u16,
-    s: Shape,
-    left: usize,
-    top: usize,
-) -> bool
-    requires { ⌜ RowAsked (now text) (now pattern) (now first) (now last) s left top ⌝ }
-    ensures { λ r. ⌜
-        RowTold (now (text .entry)) (now (pattern .entry)) s left symbols count top r (now (last .exit)) ⌝ }
-{
-    if count != symbols {
-        return false;
-    }
-    let t = Strip {
-        rows: s.rows,
-        columns: s.columns,
-        left,
-        width: s.width,
-    };
-    let r = reach(text, t, pattern, first, last, top, 1, top, 0);
-    r.place == (top + 1) * s.width
-}
-
-// Whether some window at column left may match: a strip without one needs no links.
-fn wanted(
-    text: &[u8],
-    pattern: &[u8],
-    first: &[usize; 256],
-    symbols: u16,
-    s: Shape,
-    left: usize,
-    counts: &[u16],
-) -> bool
-    requires { ⌜
-        RowsAsked (now text) (now pattern) (now first) s left × (down s * across s ≤ length (now counts)) ⌝ }
-    ensures { λ r. ⌜
-        (r ≡ false → StripDiffers (now (text .entry)) (now (pattern .entry)) s left symbols (now (counts .entry))) ⌝ }
-{
-    let across = s.columns + 1 - s.width;
-    let down = s.rows + 1 - s.height;
-    let mut last = no_positions();
-    let mut top = 0;
-    while top < down {
-        let count = counts[top * across + left];
-        if may_match(
-            text,
-            pattern,
-            first,
-            &mut last,
-            symbols,
-            count,
-            s,
-            left,
-            top,
-        ) {
-            return true;
-        }
-        top += 1;
-    }
-    false
-}
-
 // The flags of the windows at column left, where none of them matches.
 fn no_flags(s: Shape, left: usize, flags: &mut [u8])
     requires { ⌜ ShapeOf s (s .rows * s .columns) × (left < across s) × (down s * across s ≤ length (now flags)) ⌝ }
@@ -152,12 +85,15 @@ fn no_flags(s: Shape, left: usize, flags: &mut [u8])
     }
 }
 
-// The flags of the windows at column left; the links buffer holds the strip's links meanwhile.
+// The flags of the windows at column left; where some window may match, the links buffer holds the strip's links
+// meanwhile.
 fn flag_column(
     text: &[u8],
     pattern: &[u8],
     first: &[usize; 256],
     selves: &[usize; 256],
+    earlier: &[usize; 8],
+    later: &[usize; 8],
     symbols: u16,
     s: Shape,
     left: usize,
@@ -167,13 +103,24 @@ fn flag_column(
 )
     requires { ⌜
         Ready (now text) (now pattern) symbols s (now counts) (length (now links)) (length (now flags))
-        × (left < across s) × Own (now pattern) (s .width) (now first) (now selves) ⌝ }
+        × (left < across s) × Own (now pattern) (s .width) (down s) (now first) (now selves)
+        × AlikePairs (now pattern) (s .columns) (s .width) (now earlier) (now later) ⌝ }
     ensures { λ r. ⌜
         now (flags .exit) ≡ stored (flagOf (now (text .entry)) (now (pattern .entry)) s)
         (λ top. top * across s + left) (down s) (now (flags .entry)) ⌝ }
     ensures { λ r. ⌜ RestKept (s .rows * s .width) (now (links .entry)) (now (links .exit)) ⌝ }
 {
-    if !wanted(text, pattern, first, symbols, s, left, counts) {
+    if !wanted(
+        text,
+        pattern,
+        first,
+        earlier,
+        later,
+        symbols,
+        s,
+        left,
+        counts,
+    ) {
         no_flags(s, left, flags);
         return;
     }
@@ -197,6 +144,8 @@ fn flag_windows(
     pattern: &[u8],
     first: &[usize; 256],
     selves: &[usize; 256],
+    earlier: &[usize; 8],
+    later: &[usize; 8],
     symbols: u16,
     s: Shape,
     counts: &[u16],
@@ -205,7 +154,8 @@ fn flag_windows(
 )
     requires { ⌜
         Ready (now text) (now pattern) symbols s (now counts) (length (now links)) (length (now flags))
-        × Own (now pattern) (s .width) (now first) (now selves) ⌝ }
+        × Own (now pattern) (s .width) (down s) (now first) (now selves)
+        × AlikePairs (now pattern) (s .columns) (s .width) (now earlier) (now later) ⌝ }
     ensures { λ r. ⌜
         now (flags .exit) ≡ storedRows (flagOf (now (text .entry)) (now (pattern .entry)) s)
         (λ left top. top * across s + left) (across s) (down s) (now (flags .entry)) ⌝ }
@@ -219,6 +169,8 @@ fn flag_windows(
             pattern,
             first,
             selves,
+            earlier,
+            later,
             symbols,
             s,
             left,
@@ -242,30 +194,37 @@ fn clear(links: &mut [u16], n: usize)
     }
 }
 
-// What the pattern says by itself: the first place of each symbol, and the first ends of its own windows.
-fn own_places(pattern: &[u8], s: Shape, first: &mut [usize; 256], selves: &mut [usize; 256])
+// What the pattern says by itself, besides the first places: the first ends of its rows from each row on against itself,
+// and eight pairs of cells that are alike.
+fn pattern_tables(
+    pattern: &[u8],
+    s: Shape,
+    first: &[usize; 256],
+    selves: &mut [usize; 256],
+    earlier: &mut [usize; 8],
+    later: &mut [usize; 8],
+)
     requires { ⌜
-        SidesOf (now pattern) (s .height) (s .width) × (length (now first) ≡ 256) × (length (now selves) ≡ 256) ⌝ }
-    ensures { λ r. ⌜ Own (now (pattern .entry)) (s .width) (now (first .exit)) (now (selves .exit)) ⌝ }
+        ShapeOf s (s .rows * s .columns) × (length (now pattern) ≡ s .height * s .width)
+        × FirstPlaces (λ k. getD (now pattern) k 0) (length (now pattern)) (now first)
+        × (length (now selves) ≡ 256) × (now earlier ≡ replicate 8 0) × (now later ≡ replicate 8 0) ⌝ }
+    ensures { λ r. ⌜ Own (now (pattern .entry)) (s .width) (down s) (now (first .entry)) (now (selves .exit)) ⌝ }
+    ensures { λ r. ⌜
+        AlikePairs (now (pattern .entry)) (s .columns) (s .width) (now (earlier .exit)) (now (later .exit)) ⌝ }
 {
     let mut earlies = no_positions();
-    first_places(pattern, first);
-    own_ends(
-        pattern,
-        s.height,
-        s.width,
-        s.height,
-        first,
-        selves,
-        &mut earlies,
-    );
+    let n = own_rows(s.height, s.rows + 1 - s.height);
+    own_ends(pattern, s.height, s.width, n, first, selves, &mut earlies);
+    alike_pairs(pattern, first, s.columns, s.width, earlier, later);
 }
 
-// The first step of the search: the count and the flag of every window. What it used of the links buffer is 0
-// afterwards.
+// The first step of the search: the count and the flag of every window, where the pattern has so many symbols, with these
+// first places. What it used of the links buffer is 0 afterwards.
 pub fn flag_all(
     text: &[u8],
     pattern: &[u8],
+    first: &[usize; 256],
+    symbols: u16,
     s: Shape,
     links: &mut [u16],
     counts: &mut [u16],
@@ -273,22 +232,25 @@ pub fn flag_all(
 )
     requires { ⌜
         RoomFor (asked (now text) (now pattern) s)
-        (rooms (length (now links)) (length (now counts)) (length (now flags))) ⌝ }
+        (rooms (length (now links)) (length (now counts)) (length (now flags))) × (symbols ≡ distinct (now pattern))
+        × FirstPlaces (λ k. getD (now pattern) k 0) (length (now pattern)) (now first) ⌝ }
     ensures { λ r. ⌜
         working (now (links .exit)) (now (counts .exit)) (now (flags .exit))
         ≡ marked (asked (now (text .entry)) (now (pattern .entry)) s)
         (working (now (links .entry)) (now (counts .entry)) (now (flags .entry))) ⌝ }
 {
-    let symbols = pattern_size(pattern);
     distinct_counts(text, s.rows, s.columns, s.height, s.width, counts);
-    let mut first = no_positions();
     let mut selves = no_positions();
-    own_places(pattern, s, &mut first, &mut selves);
+    let mut earlier = no_offsets();
+    let mut later = no_offsets();
+    pattern_tables(pattern, s, first, &mut selves, &mut earlier, &mut later);
     flag_windows(
         text,
         pattern,
-        &first,
+        first,
         &selves,
+        &earlier,
+        &later,
         symbols,
         s,
         counts,

@@ -5,6 +5,7 @@ ghost use lib.Dec.{ltb};
 ghost use lib.ListN.{length};
 ghost use Rattle.theory.specs.Test.{pick};
 ghost use Rattle.flags.specs.Flags.Run.{linkedAt, CompareAt, EndsBy, WindowAsked, WindowEnds, WindowMarked};
+use reach::places::pattern_at;
 
 // Where a run down a strip stands behind a window: the last window that was compared begins at row, and agrees up to
 // place reached of the strip. And the position at which a mismatch of the window ends first, or the pattern's length.
@@ -32,7 +33,7 @@ fn linked_at(pattern: &[u8], first: &[usize; 256], p: usize, d: usize, a: u8) ->
         return first[a as usize] == p;
     }
     if 0 < d {
-        return pattern[p - d] == a;
+        return pattern_at(pattern, p - d) == a;
     }
     first[a as usize] == p
 }
@@ -51,7 +52,7 @@ fn linked_end(
 {
     let mut p = from;
     while p < pattern.len() {
-        let a = pattern[p];
+        let a = pattern_at(pattern, p);
         if !linked_at(pattern, first, p, links[start + p] as usize, a) {
             return p;
         }
@@ -100,7 +101,7 @@ fn next_window(
     }
 }
 
-// The flag of a window of n positions whose first mismatch ends at end.
+// The flag of a window of n positions whose first mismatch ends at end, which is n where it has none.
 fn flag_by(end: usize, n: usize) -> u8
     ensures { λ r. ⌜ r ≡ pick (ltb end n) 0 1 ⌝ }
 {

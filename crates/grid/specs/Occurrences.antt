@@ -39,8 +39,23 @@ Adds o ys r = (xs : List ℕ) → Tracks o xs → Tracks r (xs ++ ys)
 abbrev pub Removes : Occurrences → List ℕ → Occurrences → Type 0
 Removes o ys r = (xs : List ℕ) → Tracks o (ys ++ xs) → Tracks r xs
 
+-- o tracks a list that starts with ys, and zs is as long and has room at the end of what follows ys
+pub record RoomToReplace (o : Occurrences) (ys zs : List ℕ) : Type 0 where
+  pub rest : List ℕ
+  pub tracked : Tracks o (ys ++ rest)
+  pub as-long : length ys ≡ length zs
+  pub small : length rest + length zs ≤ 65535
+
+-- whatever o tracks that starts with ys, r tracks with zs at its end instead
+abbrev pub Replaces : Occurrences → List ℕ → List ℕ → Occurrences → Type 0
+Replaces o ys zs r = (xs : List ℕ) → Tracks o (ys ++ xs) → Tracks r (xs ++ zs)
+
 -- ---- a row, symbol by symbol
 
 -- n tracks what o tracks without the first i symbols of row
 abbrev pub Dropped : Occurrences → List ℕ → ℕ → Occurrences → Type 0
 Dropped o row i n = (xs : List ℕ) → Tracks o (row ++ xs) → Tracks n (drop i row ++ xs)
+
+-- the first i symbols of two rows are the same
+abbrev pub AlikeTo : List ℕ → List ℕ → ℕ → Type 0
+AlikeTo ys zs i = (k : ℕ) → k < i → getD ys k 0 ≡ getD zs k 0

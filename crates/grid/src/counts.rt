@@ -1,11 +1,13 @@
 // The number of different symbols in each window of a text. The occurrences of each symbol slide down a strip, one row
 // in and one row out for each window, and begin afresh in the next strip.
 ghost use mathlib.Core.Path.{_≡_};
+ghost use mathlib.Core.Bool.{true};
 ghost use mathlib.Core.List.{[], _∷_};
 ghost use Prim.Native.Nat.{_+_, _*_, _≤_, _<_};
 ghost use lib.ListN.{length};
 ghost use Rattle.theory.specs.Store.{stored, storedRows};
 ghost use Rattle.grid.specs.Occurrences.{occurrencesOf, Tracks, RoomToAdd, Starts, Adds, Removes};
+ghost use Rattle.grid.specs.Occurrences.{RoomToReplace, Replaces};
 ghost use Rattle.shapes.specs.Said.{outcomeSaid, filled};
 ghost use Rattle.shapes.specs.Questions.{fourSides};
 ghost use Rattle.shapes.specs.Windows.{rowCells};
@@ -16,7 +18,6 @@ use shapes::refusals::Reason;
 use shapes::refusals::Refusal;
 use shapes::shapes::Shape;
 use shapes::shapes::text_outcome;
-use shapes::windows::row_cells;
 
 // Begins afresh: no symbol occurs.
 fn clear(occurrences: &mut [u32; 256])
@@ -54,7 +55,7 @@ fn remove_symbol(occurrences: &mut [u32; 256], size: u32, v: u8) -> u32
     if old == 1 { size - 1 } else { size }
 }
 
-// A row's symbols enter.
+// A row's symbols enter, two in a round, of which i is the second: so the round has one sum and one test besides.
 fn add_row(occurrences: &mut [u32; 256], size: u32, row: &[u8]) -> u32
     requires { ⌜ RoomToAdd (occurrencesOf (now occurrences) size) (length (now row)) ⌝ }
     ensures { λ r. ⌜
@@ -62,15 +63,21 @@ fn add_row(occurrences: &mut [u32; 256], size: u32, row: &[u8]) -> u32
         (occurrencesOf (now (occurrences .exit)) r) ⌝ }
 {
     let mut next = size;
-    let mut i = 0;
+    let mut i = 1;
     while i < row.len() {
-        next = add_symbol(occurrences, next, row[i]);
-        i += 1;
+        let v = row[i - 1];
+        let w = row[i];
+        next = add_symbol(occurrences, next, v);
+        next = add_symbol(occurrences, next, w);
+        i += 2;
+    }
+    if i <= row.len() {
+        return add_symbol(occurrences, next, row[i - 1]);
     }
     next
 }
 
-// A row's symbols leave.
+// A row's symbols leave, in the same way.
 fn remove_row(occurrences: &mut [u32; 256], size: u32, row: &[u8]) -> u32
     requires { ⌜ Starts (occurrencesOf (now occurrences) size) (now row) ⌝ }
     ensures { λ r. ⌜
@@ -78,12 +85,66 @@ fn remove_row(occurrences: &mut [u32; 256], size: u32, row: &[u8]) -> u32
         (occurrencesOf (now (occurrences .exit)) r) ⌝ }
 {
     let mut next = size;
-    let mut i = 0;
+    let mut i = 1;
     while i < row.len() {
-        next = remove_symbol(occurrences, next, row[i]);
-        i += 1;
+        let v = row[i - 1];
+        let w = row[i];
+        next = remove_symbol(occurrences, next, v);
+        next = remove_symbol(occurrences, next, w);
+        i += 2;
+    }
+    if i <= row.len() {
+        return remove_symbol(occurrences, next, row[i - 1]);
     }
     next
+}
+
+// Whether what was alike so far still is with these two symbols.
+fn still_alike(alike: bool, v: u8, w: u8) -> bool
+    ensures { λ r. ⌜ (r ≡ true → (alike ≡ true) × (v ≡ w)) ⌝ }
+{
+    if v == w { alike } else { false }
+}
+
+// Rows of one length that are found alike are the same. It goes on past a difference: only so does the compiler take
+// many cells at a time.
+fn rows_alike(leaving: &[u8], entering: &[u8]) -> bool
+    requires { ⌜ length (now leaving) ≡ length (now entering) ⌝ }
+    ensures { λ r. ⌜ (r ≡ true → now (leaving .entry) ≡ now (entering .entry)) ⌝ }
+{
+    let mut alike = true;
+    let mut i = 0;
+    while i < leaving.len() {
+        alike = still_alike(alike, leaving[i], entering[i]);
+        i += 1;
+    }
+    alike
+}
+
+// The same, but short rows are not compared: where they differ, as they mostly do, the comparison would cost too much.
+fn long_rows_alike(leaving: &[u8], entering: &[u8]) -> bool
+    requires { ⌜ length (now leaving) ≡ length (now entering) ⌝ }
+    ensures { λ r. ⌜ (r ≡ true → now (leaving .entry) ≡ now (entering .entry)) ⌝ }
+{
+    if leaving.len() < 32 {
+        return false;
+    }
+    rows_alike(leaving, entering)
+}
+
+// A row's symbols leave and those of another, as long, enter. Where the two are alike, every symbol occurs as often as
+// before.
+fn replace_row(occurrences: &mut [u32; 256], size: u32, leaving: &[u8], entering: &[u8]) -> u32
+    requires { ⌜ RoomToReplace (occurrencesOf (now occurrences) size) (now leaving) (now entering) ⌝ }
+    ensures { λ r. ⌜
+        Replaces (occurrencesOf (now (occurrences .entry)) size) (now (leaving .entry)) (now (entering .entry))
+        (occurrencesOf (now (occurrences .exit)) r) ⌝ }
+{
+    if long_rows_alike(leaving, entering) {
+        return size;
+    }
+    let less = remove_row(occurrences, size, leaving);
+    add_row(occurrences, less, entering)
 }
 
 // The part of row top that lies in the strip at column left.
@@ -91,7 +152,9 @@ fn strip_row(text: &[u8], s: Shape, top: usize, left: usize) -> &[u8]
     requires { ⌜ ShapeOf s (length (now text)) × (left + s .width ≤ s .columns) × (top < s .rows) ⌝ }
     ensures { λ r. ⌜ now r ≡ rowCells (now (text .entry)) (s .columns) top left (s .width) ⌝ }
 {
-    row_cells(text, s.columns as u8, top as u8, left as u8, s.width as u8)
+    let start = top * s.columns + left;
+    let end = start + s.width;
+    &text[start..end]
 }
 
 // The symbols of the strip's topmost window enter.
@@ -132,8 +195,12 @@ fn slide(
 {
     let next = top + s.height;
     if next < s.rows {
-        let less = remove_row(occurrences, size, strip_row(text, s, top, left));
-        return add_row(occurrences, less, strip_row(text, s, next, left));
+        return replace_row(
+            occurrences,
+            size,
+            strip_row(text, s, top, left),
+            strip_row(text, s, next, left),
+        );
     }
     size
 }

@@ -23,7 +23,7 @@ use Rattle.matching.specs.declared.compare.Verdict.{Verdict}
 use Rattle.matching.specs.declared.compare.WindowAnswer.{WindowAnswer}
 use Rattle.matching.specs.declared.compare.Verdict.the-variants.{Match, Mismatch, Refused}
 
--- the pattern's symbols by position. How a pattern lies on a window is said here and nowhere else.
+-- the pattern's symbols by position, row by row as it is given
 abbrev pub patternAt : List ℕ → ℕ → ℕ
 patternAt pattern p = getD pattern p 0
 

@@ -1,5 +1,4 @@
 pub mod Compare
-pub mod Places
 pub mod Windows
 pub mod Theorems
 pub mod Examples

@@ -1,5 +1,3 @@
-// The one-window question: whether a pattern matches the window of its size at a corner; window after window, and the
-// places of a pattern's symbols.
+// The one-window question: whether a pattern matches the window of its size at a corner; window after window.
 pub mod compare;
-pub mod places;
 pub mod windows;

@@ -1,7 +1,7 @@
 -- What a comparison keeps: two tables of 256 places, one for each symbol. `first` has the first place of each symbol of
 -- the pattern; it says nothing of symbols that the pattern has not. `last` has one more than the last place of each
--- symbol in the text so far. It is never cleared: an entry at or before the window's beginning counts for nothing, so a
--- window further down takes it as it is.
+-- symbol among the cells of the window that were looked at. It is not cleared from window to window: an entry at or
+-- before the window's beginning counts for nothing, so a window further down takes it as it is.
 -- Assumes nothing.
 pub mod Tables
 pub mod Laws
@@ -12,7 +12,6 @@ use Prim.Native.Nat.{ℕ, _+_, _-_, _≤_, _<_}
 use lib.Dec.{eqb, ltb}
 use lib.ListN.{length, getD}
 use Rattle.theory.specs.Test.{pick}
-use Rattle.theory.specs.First.{first}
 use Rattle.theory.specs.Match.{ends}
 use Rattle.theory.specs.Older.{Older}
 use Rattle.prefixes.specs.Prefixes.{suffix}

@@ -1,6 +1,6 @@
 -- How far one window of a strip agrees with a pattern: what `reach` asks, and what it ensures. It is given a place up
--- to which the window is known to agree, and goes on from there, so the one-window question (which knows nothing yet)
--- and the sweep (which inherits) both call it.
+-- to which the window is known to agree, and goes on from there: the sweep, which inherits, knows such a place, and the
+-- first rows that the sieve looks at begin with none.
 -- Assumes nothing.
 pub mod Rows
 pub mod Laws

@@ -1,7 +1,16 @@
-// Tables of positions, one for each symbol: none yet, and the first place of each symbol of a pattern.
+// Tables of 256 positions: none yet, and the first place of each symbol of a pattern.
 ghost use mathlib.Core.Path.{_≡_};
+ghost use Prim.Native.Nat.{_<_};
 ghost use lib.ListN.{length, getD, replicate};
 ghost use Rattle.prefixes.specs.State.{FirstPlaces};
+
+// The pattern's symbol at a position. Comparisons read the pattern here and nowhere else.
+pub fn pattern_at(pattern: &[u8], p: usize) -> u8
+    requires { ⌜ p < length (now pattern) ⌝ }
+    ensures { λ r. ⌜ r ≡ getD (now (pattern .entry)) p 0 ⌝ }
+{
+    pattern[p]
+}
 
 // No position yet. The tables are of usize, so that a place needs no cast.
 pub fn no_positions() -> [usize; 256]

@@ -5,8 +5,8 @@ use crate::rows::earlier_by;
 use crate::rows::part_end;
 use grid::strips::Strip;
 
-// The place of the strip at which a mismatch of a window ends first, with the mismatch's earlier position, or at which
-// the window ends, with 0.
+// The place in the strip at which a mismatch of a window ends first, with the mismatch's earlier position in the
+// window; or the place at which the window ends, with 0.
 pub struct Far {
     pub place: usize,
     pub earlier: usize,

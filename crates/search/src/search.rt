@@ -9,6 +9,9 @@ ghost use Rattle.flags.specs.Flags.{RoomFor, rooms};
 ghost use Rattle.search.specs.Search.{done, lend, roomSaid, listedOf, searchOf};
 use crate::totals::totals_of;
 use flags::flags::flag_all;
+use reach::places::first_places;
+use reach::places::no_positions;
+use sets::symbols::pattern_size;
 use shapes::refusals::Outcome;
 use shapes::refusals::Reason;
 use shapes::refusals::Refusal;
@@ -80,15 +83,18 @@ fn search_windows(
         (lend (now (links .entry)) (now (counts .entry)) (now (flags .entry)) (now (listing .entry))) ⌝ }
 {
     let n = (s.rows + 1 - s.height) * (s.columns + 1 - s.width);
-    flag_all(text, pattern, s, links, counts, flags);
-    let totals = totals_of(pattern, flags, n);
+    let symbols = pattern_size(pattern);
+    let mut first = no_positions();
+    first_places(pattern, &mut first);
+    flag_all(text, pattern, &first, symbols, s, links, counts, flags);
+    let totals = totals_of(pattern, symbols, flags, n);
     let found = totals.found;
     let refused = totals.refused;
     let length = totals.length;
     if listing.len() < length {
         return Searched::Refused(Refusal::ListingBufferShort(length));
     }
-    write_listing(text, pattern, s, found, refused, flags, listing);
+    write_listing(text, pattern, &first, s, found, refused, flags, listing);
     Searched::Listed {
         found,
         refused,

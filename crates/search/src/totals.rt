@@ -5,7 +5,6 @@ ghost use lib.ListN.{length};
 ghost use Rattle.grid.specs.Distinct.{distinct};
 ghost use Rattle.writer.specs.Listing.{listingLength};
 ghost use Rattle.writer.specs.Listing.Totals.{ones, others};
-use sets::symbols::pattern_size;
 
 // The windows found and refused, and the length of their listing.
 pub struct Totals {
@@ -30,14 +29,15 @@ fn count_found(flags: &[u8], n: usize) -> u16
     found
 }
 
-// The totals of n windows with these flags.
-pub fn totals_of(pattern: &[u8], flags: &[u8], n: usize) -> Totals
-    requires { ⌜ (length (now pattern) ≤ 65025) × (n ≤ 65025) × (n ≤ length (now flags)) ⌝ }
+// The totals of n windows with these flags. The caller has the number of the pattern's symbols, so it is not found a
+// second time here.
+pub fn totals_of(pattern: &[u8], symbols: u16, flags: &[u8], n: usize) -> Totals
+    requires { ⌜ (symbols ≡ distinct (now pattern)) × (n ≤ 65025) × (n ≤ length (now flags)) ⌝ }
     ensures { λ r. ⌜ r .found ≡ ones (now (flags .entry)) n ⌝ }
     ensures { λ r. ⌜ r .refused ≡ others (now (flags .entry)) n ⌝ }
     ensures { λ r. ⌜ r .length ≡ listingLength (r .found) (r .refused) (distinct (now (pattern .entry))) ⌝ }
 {
-    let d = pattern_size(pattern) as usize;
+    let d = symbols as usize;
     let found = count_found(flags, n);
     let refused = n as u16 - found;
     let length = found as usize * (3 + 3 * d) + 7 * refused as usize + 5;

@@ -3,12 +3,15 @@
 pub mod Words
 pub mod Blocks
 pub mod Patterns
+pub mod Marking
 pub mod Taken
 pub mod Listed
+use mathlib.Core.Path.{_≡_}
 use mathlib.Core.Bool.{Bool, true, false}
 use mathlib.Core.List.{List, [], _∷_}
-use Prim.Native.Nat.{ℕ, zero, suc, _+_, _*_, _/_, _%_, _^_}
+use Prim.Native.Nat.{ℕ, zero, suc, _+_, _*_, _/_, _%_, _^_, _≤_, _<_}
 use lib.Dec.{eqb}
+use lib.ListN.{length, getD}
 use Rattle.theory.specs.Test.{pick}
 use Rattle.theory.specs.First.{first}
 use Rattle.theory.specs.Count.{count, members}
@@ -50,6 +53,20 @@ setOf P =
 abbrev pub symbolSet : List ℕ → Symbols
 symbolSet xs = setOf (contains xs)
 
+-- a table with an entry for each symbol, all 0 or 1
+pub record Marks (marks : List ℕ) : Type 0 where
+  pub long : length marks ≡ 256
+  pub bits : (v : ℕ) → v < 256 → getD marks v 0 ≤ 1
+
+-- the entry is 1 exactly for the symbols that the list has
+pub record MarksOf (xs marks : List ℕ) : Type 0 where
+  pub long : length marks ≡ 256
+  pub each : (v : ℕ) → v < 256 → getD marks v 0 ≡ pick (contains xs v) 1 0
+
+-- n marks from place `at` on as a word, the first as its lowest bit
+pub markWord : List ℕ → ℕ → ℕ → ℕ
+markWord marks at n = wordOf (λ k. eqb (getD marks (at + k) 0) 1) n
+
 -- the symbols of a pattern, rising
 abbrev pub symbolsOf : List ℕ → List ℕ
 symbolsOf pattern = members (contains pattern) 256
@@ -61,10 +78,6 @@ sizeOf s = count (has s) 256
 -- the lowest one, or 256 where there is none
 abbrev pub lowestOf : Symbols → ℕ
 lowestOf s = first (has s) 256
-
--- the set with v
-abbrev pub withSymbol : Symbols → ℕ → Symbols
-withSymbol s v = setOf (λ u. pick (eqb u v) true (has s u))
 
 -- the set without v
 abbrev pub withoutSymbol : Symbols → ℕ → Symbols

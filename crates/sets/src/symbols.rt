@@ -1,6 +1,6 @@
 // The set of the symbols in a pattern: 256 bits in four words.
 ghost use mathlib.Core.Path.{_≡_};
-ghost use mathlib.Core.Bool.{true, false};
+ghost use mathlib.Core.Bool.{false};
 ghost use Prim.Native.Nat.{_≤_, _<_};
 ghost use lib.Dec.{eqb};
 ghost use lib.ListN.{length};
@@ -8,8 +8,9 @@ ghost use Rattle.theory.specs.Test.{pick};
 ghost use Rattle.theory.specs.Count.{members};
 ghost use Rattle.shapes.specs.Said.{overFront};
 ghost use Rattle.grid.specs.Distinct.{distinct};
-ghost use Rattle.sets.specs.Symbols.{bitOf, wordOf, has, setOf, symbolSet, sizeOf, lowestOf, withSymbol};
-ghost use Rattle.sets.specs.Symbols.{withoutSymbol};
+ghost use Rattle.sets.specs.Symbols.{bitOf, wordOf, has, symbolSet, sizeOf, lowestOf, withoutSymbol};
+ghost use Rattle.sets.specs.Symbols.{Marks, MarksOf, markWord};
+use shapes::tables::no_symbols;
 
 // Bit k of word i is 1 where symbol 64 i + k is in the set.
 pub struct Symbols {
@@ -17,14 +18,6 @@ pub struct Symbols {
     pub w1: u64,
     pub w2: u64,
     pub w3: u64,
-}
-
-// The word with bit k set to 1.
-fn set_bit(w: u64, k: u8) -> u64
-    requires { ⌜ k < 64 ⌝ }
-    ensures { λ r. ⌜ r ≡ wordOf (λ j. pick (eqb j k) true (bitOf w j)) 64 ⌝ }
-{
-    w | (1u64 << k)
 }
 
 // The word with bit k set to 0.
@@ -40,39 +33,6 @@ fn clear_bit(w: u64, k: u8) -> u64
 }
 
 impl Symbols {
-    fn empty() -> Symbols
-        ensures { λ r. ⌜ r ≡ setOf (λ v. false) ⌝ }
-    {
-        Symbols {
-            w0: 0,
-            w1: 0,
-            w2: 0,
-            w3: 0,
-        }
-    }
-
-    // The set with v.
-    fn with(self, v: u8) -> Symbols
-        ensures { λ r. ⌜ r ≡ withSymbol self v ⌝ }
-    {
-        let mut s = self;
-        let k = v % 64;
-        if v < 64 {
-            s.w0 = set_bit(s.w0, k);
-            return s;
-        }
-        if v < 128 {
-            s.w1 = set_bit(s.w1, k);
-            return s;
-        }
-        if v < 192 {
-            s.w2 = set_bit(s.w2, k);
-            return s;
-        }
-        s.w3 = set_bit(s.w3, k);
-        s
-    }
-
     // The set without v.
     pub fn without(self, v: u8) -> Symbols
         ensures { λ r. ⌜ r ≡ withoutSymbol self v ⌝ }
@@ -122,17 +82,47 @@ impl Symbols {
     }
 }
 
+// The marks of a pattern: 1 for each symbol that it has, 0 for the others. A cell costs one store and no branch, so a
+// large pattern is read at the speed of its bytes.
+fn marks_of(pattern: &[u8]) -> [u8; 256]
+    ensures { λ r. ⌜ MarksOf (now (pattern .entry)) r ⌝ }
+{
+    let mut marks = no_symbols();
+    let mut i = 0;
+    while i < pattern.len() {
+        let v = pattern[i] as usize;
+        marks[v] = 1;
+        i += 1;
+    }
+    marks
+}
+
+// The 64 marks from there on as a word, the first as its lowest bit: from the last one down, since each doubles what
+// stands above it.
+fn mark_word(marks: &[u8; 256], from: usize) -> u64
+    requires { ⌜ Marks (now marks) × (from ≤ 192) ⌝ }
+    ensures { λ r. ⌜ r ≡ markWord (now (marks .entry)) from 64 ⌝ }
+{
+    let mut w = 0;
+    let mut k = 64;
+    while 0 < k {
+        k -= 1;
+        w = 2 * w + marks[from + k] as u64;
+    }
+    w
+}
+
 // The set of the symbols in a pattern.
 pub fn symbols_of(pattern: &[u8]) -> Symbols
     ensures { λ r. ⌜ r ≡ symbolSet (now (pattern .entry)) ⌝ }
 {
-    let mut s = Symbols::empty();
-    let mut i = 0;
-    while i < pattern.len() {
-        s = s.with(pattern[i]);
-        i += 1;
+    let marks = marks_of(pattern);
+    Symbols {
+        w0: mark_word(&marks, 0),
+        w1: mark_word(&marks, 64),
+        w2: mark_word(&marks, 128),
+        w3: mark_word(&marks, 192),
     }
-    s
 }
 
 // The symbols of a set, rising, at the front of a list: for a walk that is made many times over.

@@ -1,5 +1,5 @@
--- The sweep: the first end of every window, and the earlier position of the mismatch that ends there, in a time that is
--- linear in the strips.
+-- The sweep: the first end of each window of a strip, and the earlier position of the mismatch that ends there, in a
+-- time that is linear in the strip.
 --
 -- Down a strip each window is asked with what the last one that was compared says of it, by the three laws of
 -- crates/prefixes. The step and the two cells: symbol by symbol, with the first places of the pattern's symbols and the
@@ -8,11 +8,6 @@
 -- where that lies in what agreed; else it agrees as far as that one did, and is compared from there on. So each cell of
 -- a strip is compared about once. The pattern's own ends are the same run, with the pattern as its text. Contracts say
 -- what is found, and nothing of the time.
---
--- What the code ensures (src/runs.rt). `all_ends`: in the two buffers entry k is `endOf` and `earlierOf` of window k,
--- for each window, row by row; the rest of the buffers is as it was. `strip_ends`: the same entries for the windows at
--- one column, one below the other, and all else as it was. `window-answer` (Runs.antt): the two numbers give the answer
--- of theory's `answerOf` for the window, so a verdict and both cells need nothing besides.
 -- Assumes nothing.
 pub mod Steps
 pub mod Own
@@ -47,7 +42,8 @@ earlierOf text s pattern k =
 
 -- What the inner functions' contracts cite.
 
--- a run stands before the window at row top: the last window compared begins at row, and agrees up to place reached
+-- a run stands at the window at row top: the last window compared begins at row, at or above it, and agrees up to place
+-- reached
 pub record RunAt (text : List ℕ) (s : Strip) (pattern last : List ℕ) (row reached top height : ℕ) : Type 0 where
   pub past : row ≤ top
   pub fits : reached ≤ row * s .width + length pattern

@@ -1,5 +1,6 @@
--- Columns of 256 entries that are lent from window to window and never cleared: each window has a base of its own, 256
--- above the last one's, and an entry below it counts for nothing.
+-- Tables of 256 entries that are lent from window to window and never cleared: each window has a base of its own, and
+-- an entry below it counts for nothing. For images and marks the base rises by 256 from window to window, for last
+-- places it is where the window begins.
 -- Assumes nothing.
 pub mod Laws
 use mathlib.Core.Path.{_≡_}

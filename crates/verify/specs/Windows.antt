@@ -22,7 +22,7 @@ use Rattle.matching.specs.Windows.{windowPlace}
 use Rattle.matching.specs.Windows.Laws.{placed-window}
 use Rattle.shapes.specs.declared.windows.WindowPlace.{WindowPlace}
 use Rattle.sweep.specs.Sweep.{SidesOf}
-use Rattle.claims.specs.Inheritance.{Above}
+use Rattle.carrying.specs.Inheritance.{Above}
 use Rattle.claims.specs.declared.walks.Walk.{Walk}
 use Rattle.claims.specs.declared.walks.Walk.the-variants.{Goes, Stops}
 use Rattle.verify.specs.Check.{entryFrom, placeIn, windowsTo, standsFound, foundTo}
@@ -100,17 +100,17 @@ window-asks text pattern s shape size k h v e =
 -- ---- what windows leave to those below them
 
 -- before the first window nothing is left, and nothing is made
-pub above-none : (text pattern : List ℕ) (columns height width : ℕ) (first selves tops : List ℕ)
-    → SidesOf pattern height width → columns ≤ 255 → first ≡ replicate 256 0 → selves ≡ replicate 256 0
+pub above-none : (text pattern : List ℕ) (columns height width : ℕ) (offsets selves tops : List ℕ)
+    → SidesOf pattern height width → columns ≤ 255 → offsets ≡ replicate 256 0 → selves ≡ replicate 256 0
     → tops ≡ replicate 256 0
-    → Above text pattern columns height width first selves tops
-above-none text pattern columns height width first selves tops sides narrow f s t =
+    → Above text pattern columns height width offsets selves tops
+above-none text pattern columns height width offsets selves tops sides narrow f s t =
     record {
       sides = sides;
       narrow = narrow;
       tops-are = record { long = older-zeros 1 tops (omega arith) t .long; each = λ j h. absurd (none tops t j h) };
       owned = record {
-        first-long = older-zeros 1 first (omega arith) f .long;
+        offsets-long = older-zeros 1 offsets (omega arith) f .long;
         long = older-zeros 1 selves (omega arith) s .long;
         made = λ h. absurd (none selves s 0 h);
       };
@@ -119,16 +119,16 @@ above-none text pattern columns height width first selves tops sides narrow f s 
     none : (l : List ℕ) → l ≡ replicate 256 0 → (j : ℕ) → 0 < getD l j 0 → ⊥
     none l e j h = omega (arith, older-zeros 1 l (omega arith) e .below j)
 
-module _ (text pattern : List ℕ) (columns height width k : ℕ) (v : WindowPlace) (first selves tops : List ℕ)
+module _ (text pattern : List ℕ) (columns height width k : ℕ) (v : WindowPlace) (offsets selves tops : List ℕ)
     (e : v ≡ windowPlace columns height width k) where
   -- what is known of the text is known to window k
-  pub above-window : Above text pattern columns height width first selves tops
-      → Above text pattern (v .columns) (v .height) (v .width) first selves tops
+  pub above-window : Above text pattern columns height width offsets selves tops
+      → Above text pattern (v .columns) (v .height) (v .width) offsets selves tops
   above-window a =
-      subst (λ (u : WindowPlace). Above text pattern (u .columns) (u .height) (u .width) first selves tops) (sym e) a
+      subst (λ (u : WindowPlace). Above text pattern (u .columns) (u .height) (u .width) offsets selves tops) (sym e) a
 
   -- and the other way round
-  pub above-place : Above text pattern (v .columns) (v .height) (v .width) first selves tops
-      → Above text pattern columns height width first selves tops
+  pub above-place : Above text pattern (v .columns) (v .height) (v .width) offsets selves tops
+      → Above text pattern columns height width offsets selves tops
   above-place a =
-      subst (λ (u : WindowPlace). Above text pattern (u .columns) (u .height) (u .width) first selves tops) e a
+      subst (λ (u : WindowPlace). Above text pattern (u .columns) (u .height) (u .width) offsets selves tops) e a

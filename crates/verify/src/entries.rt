@@ -12,7 +12,7 @@ ghost use Rattle.claims.specs.Claims.{orStop};
 ghost use Rattle.claims.specs.declared.walks.Walk.the-variants.{Goes};
 ghost use Rattle.verify.specs.Check.{rightMismatch, entryFrom};
 ghost use Rattle.claims.specs.Walks.{MismatchAt};
-ghost use Rattle.claims.specs.Inheritance.{Above};
+ghost use Rattle.carrying.specs.Inheritance.{Above};
 use claims::mismatches::true_mismatch;
 use claims::pairs::found_pairs;
 use claims::walks::Walk;
@@ -64,7 +64,7 @@ pub fn read_entry(
     base: u32,
     images: &mut [u32; 256],
     given: &mut [u32; 256],
-    first: &mut [usize; 256],
+    offsets: &mut [usize; 256],
     selves: &mut [usize; 256],
     tops: &mut [usize; 256],
     listing: &[u8],
@@ -73,12 +73,12 @@ pub fn read_entry(
     requires { ⌜
         Placed (now text) v × (length (now pattern) ≡ cellCount v) × (now symbols ≡ symbolsOf (now pattern))
         × (length (now images) ≡ 256) × Older base (now given) × (base ≤ 16777216)
-        × Above (now text) (now pattern) (v .columns) (v .height) (v .width) (now first) (now selves) (now tops) ⌝ }
+        × Above (now text) (now pattern) (v .columns) (v .height) (v .width) (now offsets) (now selves) (now tops) ⌝ }
     ensures { λ r. ⌜ r ≡ entryFrom (now (text .entry)) (now (pattern .entry)) v (now (listing .entry)) at ⌝ }
     ensures { λ r. ⌜ Older (base + 256) (now (given .exit)) ⌝ }
     ensures { λ r. ⌜ length (now (images .exit)) ≡ 256 ⌝ }
     ensures { λ r. ⌜
-        Above (now (text .entry)) (now (pattern .entry)) (v .columns) (v .height) (v .width) (now (first .exit))
+        Above (now (text .entry)) (now (pattern .entry)) (v .columns) (v .height) (v .width) (now (offsets .exit))
         (now (selves .exit)) (now (tops .exit)) ⌝ }
 {
     let cursor = Cursor { at };
@@ -99,7 +99,7 @@ pub fn read_entry(
                 base,
                 images,
                 given,
-                first,
+                offsets,
                 selves,
                 tops,
                 listing,

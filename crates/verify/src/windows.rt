@@ -8,7 +8,7 @@ ghost use Rattle.theory.specs.Test.{pick};
 ghost use Rattle.shapes.specs.Shapes.{ShapeOf};
 ghost use Rattle.shapes.specs.Questions.{asked};
 ghost use Rattle.sets.specs.Symbols.{symbolsOf};
-ghost use Rattle.claims.specs.Inheritance.{Above};
+ghost use Rattle.carrying.specs.Inheritance.{Above};
 ghost use Rattle.verify.specs.Windows.{WindowsWalked};
 use crate::entries::read_entry;
 use claims::walks::Walk;
@@ -47,7 +47,7 @@ fn walk_windows(
     symbols: &[u8],
     images: &mut [u32; 256],
     given: &mut [u32; 256],
-    first: &mut [usize; 256],
+    offsets: &mut [usize; 256],
     selves: &mut [usize; 256],
     tops: &mut [usize; 256],
     listing: &[u8],
@@ -55,7 +55,7 @@ fn walk_windows(
     requires { ⌜
         ShapeOf s (length (now text)) × (length (now pattern) ≡ s .height * s .width)
         × (now symbols ≡ symbolsOf (now pattern)) × (length (now images) ≡ 256) × Older 256 (now given)
-        × Above (now text) (now pattern) (s .columns) (s .height) (s .width) (now first) (now selves) (now tops) ⌝ }
+        × Above (now text) (now pattern) (s .columns) (s .height) (s .width) (now offsets) (now selves) (now tops) ⌝ }
     ensures { λ r. ⌜ WindowsWalked (asked (now (text .entry)) (now (pattern .entry)) s) (now (listing .entry)) r ⌝ }
 {
     let across = s.columns + 1 - s.width;
@@ -80,7 +80,7 @@ fn walk_windows(
             base,
             images,
             given,
-            first,
+            offsets,
             selves,
             tops,
             listing,
@@ -113,7 +113,7 @@ pub fn read_windows(text: &[u8], pattern: &[u8], s: Shape, listing: &[u8]) -> Wa
     let d = list_symbols(set, &mut listed);
     let mut images = no_entries();
     let mut given = no_entries();
-    let mut first = no_positions();
+    let mut offsets = no_positions();
     let mut selves = no_positions();
     let mut tops = no_positions();
     walk_windows(
@@ -123,7 +123,7 @@ pub fn read_windows(text: &[u8], pattern: &[u8], s: Shape, listing: &[u8]) -> Wa
         &listed[..d],
         &mut images,
         &mut given,
-        &mut first,
+        &mut offsets,
         &mut selves,
         &mut tops,
         listing,

@@ -1,6 +1,7 @@
 -- Document 01's listing of a search: the records of every window, row by row, and the closing.
 -- Assumes nothing.
 pub mod Entries
+pub mod Offsets
 pub mod Pairs
 pub mod Windows
 pub mod Whole

@@ -7,50 +7,70 @@ ghost use Rattle.theory.specs.Test.{pick};
 ghost use Rattle.matching.specs.Compare.{patternAt, windowOf, cellCount, Placed};
 ghost use Rattle.matching.specs.Windows.{SmallPlace};
 ghost use Rattle.theory.specs.Written.{written};
-ghost use Rattle.listing.specs.Entries.{bytesAll, mismatchBodyAt, mismatchRecord};
+ghost use Rattle.listing.specs.Entries.{bytesAll, cellAt, mismatchBodyAt, mismatchRecord};
 ghost use Rattle.writer.specs.Listing.{entryAt};
 ghost use Rattle.prefixes.specs.Prefixes.{EndIs};
+ghost use Rattle.sets.specs.Symbols.{symbolsOf};
+ghost use Rattle.writer.specs.Listing.Offsets.{PairTables};
 ghost use Rattle.writer.specs.Listing.Pairs.{pairBytes};
-ghost use Rattle.writer.specs.Listing.Entries.{imagesAt, foundRecords, Standing, Unmatched, Answered};
+ghost use Rattle.writer.specs.Listing.Entries.{imagesAt, foundRecords, Unmatched, Answered};
+ghost use Rattle.writer.specs.Listing.Strips.{stripWindow};
 use listing::records::MismatchBody;
 use listing::records::Place;
 use listing::records::Record;
 use listing::records::write_record;
-use matching::compare::symbol_at;
-use sets::symbols::Symbols;
+use shapes::shapes::Shape;
 use shapes::windows::WindowPlace;
 
-// The pairs of a found window, the pattern's symbols rising: each with the window's symbol at its place.
+// The window at row top of the strip at column left.
+pub fn strip_window(s: Shape, left: usize, top: usize) -> WindowPlace
+    ensures { λ r. ⌜ r ≡ stripWindow s left top ⌝ }
+{
+    WindowPlace {
+        columns: s.columns,
+        row: top,
+        column: left,
+        height: s.height,
+        width: s.width,
+    }
+}
+
+// The pairs of a found window, the pattern's symbols rising: each with the window's symbol at its first place. The
+// tables have both at hand, so a pair is two reads, and no division is made.
 fn write_pairs(
     text: &[u8],
     v: WindowPlace,
-    symbols: Symbols,
-    places: &[u16],
+    pattern: &[u8],
+    listed: &[u8],
+    offsets: &[usize; 256],
     listing: &mut [u8],
     at: usize,
 ) -> usize
     requires { ⌜
-        Placed (now text) v × Standing symbols (now places) v
-        × (at + length (pairBytes (imagesAt (now text) v (now places)) symbols) ≤ length (now listing)) ⌝ }
-    ensures { λ r. ⌜ r ≡ at + length (pairBytes (imagesAt (now (text .entry)) v (now (places .entry))) symbols) ⌝ }
+        Placed (now text) v × (length (now pattern) ≡ cellCount v)
+        × PairTables (now pattern) (v .columns) (v .width) (now listed) (now offsets)
+        × (at + length (pairBytes (imagesAt (now text) v (now pattern)) (symbolsOf (now pattern)))
+        ≤ length (now listing)) ⌝ }
+    ensures { λ r. ⌜
+        r ≡ at + length (pairBytes (imagesAt (now (text .entry)) v (now (pattern .entry)))
+        (symbolsOf (now (pattern .entry)))) ⌝ }
     ensures { λ r. ⌜
         now (listing .exit) ≡ written (now (listing .entry)) at
-        (pairBytes (imagesAt (now (text .entry)) v (now (places .entry))) symbols) ⌝ }
+        (pairBytes (imagesAt (now (text .entry)) v (now (pattern .entry))) (symbolsOf (now (pattern .entry)))) ⌝ }
 {
-    let mut rest = symbols;
+    let corner = v.row * v.columns + v.column;
+    let d = listed.len();
     let mut end = at;
-    let mut a = rest.lowest();
-    while a < 256 {
-        let symbol = a as u8;
-        let p = places[a as usize] as usize;
-        let image = symbol_at(text, v, p);
+    let mut k = 0;
+    while k < d {
+        let symbol = listed[k];
+        let image = text[corner + offsets[k]];
         let pair = Record::Pair {
             pattern: symbol,
             text: image,
         };
         end = write_record(listing, end, pair);
-        rest = rest.without(symbol);
-        a = rest.lowest();
+        k += 1;
     }
     end
 }
@@ -59,25 +79,40 @@ fn write_pairs(
 fn write_found(
     text: &[u8],
     v: WindowPlace,
-    symbols: Symbols,
-    places: &[u16],
+    pattern: &[u8],
+    listed: &[u8],
+    offsets: &[usize; 256],
     listing: &mut [u8],
     at: usize,
 ) -> usize
     requires { ⌜
-        Placed (now text) v × SmallPlace v × Standing symbols (now places) v
-        × (at + length (bytesAll (foundRecords (now text) v symbols (now places))) ≤ length (now listing)) ⌝ }
-    ensures { λ r. ⌜ r ≡ at + length (bytesAll (foundRecords (now (text .entry)) v symbols (now (places .entry)))) ⌝ }
+        Placed (now text) v × SmallPlace v × (length (now pattern) ≡ cellCount v)
+        × PairTables (now pattern) (v .columns) (v .width) (now listed) (now offsets)
+        × (at + length (bytesAll (foundRecords (now text) v (now pattern))) ≤ length (now listing)) ⌝ }
+    ensures { λ r. ⌜ r ≡ at + length (bytesAll (foundRecords (now (text .entry)) v (now (pattern .entry)))) ⌝ }
     ensures { λ r. ⌜
         now (listing .exit) ≡ written (now (listing .entry)) at
-        (bytesAll (foundRecords (now (text .entry)) v symbols (now (places .entry)))) ⌝ }
+        (bytesAll (foundRecords (now (text .entry)) v (now (pattern .entry)))) ⌝ }
 {
     let found = Record::Found {
         row: v.row as u8,
         column: v.column as u8,
     };
     let next = write_record(listing, at, found);
-    write_pairs(text, v, symbols, places, listing, next)
+    write_pairs(text, v, pattern, listed, offsets, listing, next)
+}
+
+// The cell at a position of the window. Positions have 16 bits, and a division of 32 costs less than one of 64.
+fn cell_of(v: WindowPlace, p: usize) -> Place
+    requires { ⌜ SmallPlace v × (p < cellCount v) ⌝ }
+    ensures { λ r. ⌜ r ≡ cellAt (v .width) p ⌝ }
+{
+    let width = v.width as u32;
+    let at = p as u32;
+    Place {
+        row: (at / width) as u8,
+        column: (at % width) as u8,
+    }
 }
 
 // The record of a refused window: kind 3 where the cells are alike in the pattern, else kind 4.
@@ -90,14 +125,8 @@ fn mismatch_record(v: WindowPlace, alike: bool, earlier: usize, later: usize) ->
             row: v.row as u8,
             column: v.column as u8,
         },
-        earlier: Place {
-            row: (earlier / v.width) as u8,
-            column: (earlier % v.width) as u8,
-        },
-        later: Place {
-            row: (later / v.width) as u8,
-            column: (later % v.width) as u8,
-        },
+        earlier: cell_of(v, earlier),
+        later: cell_of(v, later),
     };
     if alike {
         return Record::AlikeInPattern(body);
@@ -132,18 +161,18 @@ pub fn write_refused(
 
 // The records of a window whose flag says that it is found, and none of another; in either case the place behind its
 // records.
-pub fn pass_window(
+pub fn write_if_found(
     text: &[u8],
     v: WindowPlace,
     pattern: &[u8],
     flag: u8,
-    symbols: Symbols,
-    places: &[u16],
+    listed: &[u8],
+    offsets: &[usize; 256],
     listing: &mut [u8],
     at: usize,
 ) -> usize
     requires { ⌜
-        Answered (now text) v (now pattern) flag symbols (now places)
+        Answered (now text) v (now pattern) flag (now listed) (now offsets)
         × (at + length (bytesAll (entryAt (now text) (now pattern) v)) ≤ length (now listing)) ⌝ }
     ensures { λ r. ⌜ r ≡ at + length (bytesAll (entryAt (now (text .entry)) (now (pattern .entry)) v)) ⌝ }
     ensures { λ r. ⌜
@@ -152,7 +181,7 @@ pub fn pass_window(
         (now (listing .entry)) ⌝ }
 {
     if flag == 1 {
-        return write_found(text, v, symbols, places, listing, at);
+        return write_found(text, v, pattern, listed, offsets, listing, at);
     }
     at + 7
 }

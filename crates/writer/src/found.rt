@@ -5,12 +5,12 @@ ghost use Prim.Native.Nat.{_+_, _*_, _≤_, _<_};
 ghost use lib.ListN.{length};
 ghost use Rattle.shapes.specs.Shapes.{across, down};
 ghost use Rattle.listing.specs.Entries.Put.{Heads, Puts, startOf};
-ghost use Rattle.writer.specs.Listing.Windows.{Flagged, SymbolPlaces};
+ghost use Rattle.writer.specs.Listing.Offsets.{PairTables};
+ghost use Rattle.writer.specs.Listing.Windows.{Flagged};
 ghost use Rattle.writer.specs.Listing.Strips.{pieceOf, FoundIn};
-use crate::entries::pass_window;
-use sets::symbols::Symbols;
+use crate::entries::strip_window;
+use crate::entries::write_if_found;
 use shapes::shapes::Shape;
-use shapes::windows::WindowPlace;
 
 // The records of the found windows of row top, whose records begin at start; the place behind those of the row.
 fn write_row(
@@ -18,14 +18,15 @@ fn write_row(
     pattern: &[u8],
     s: Shape,
     top: usize,
-    symbols: Symbols,
-    places: &[u16],
+    listed: &[u8],
+    offsets: &[usize; 256],
     flags: &[u8],
     listing: &mut [u8],
     start: usize,
 ) -> usize
     requires { ⌜
-        Flagged (now text) (now pattern) s (now flags) × SymbolPlaces (now pattern) symbols (now places)
+        Flagged (now text) (now pattern) s (now flags)
+        × PairTables (now pattern) (s .columns) (s .width) (now listed) (now offsets)
         × (top < down s) × (start ≡ startOf (pieceOf (now text) (now pattern) s) (top * across s))
         × (startOf (pieceOf (now text) (now pattern) s) (down s * across s) ≤ length (now listing)) ⌝ }
     ensures { λ r. ⌜ r ≡ startOf (pieceOf (now (text .entry)) (now (pattern .entry)) s) ((top + 1) * across s) ⌝ }
@@ -40,14 +41,8 @@ fn write_row(
     let mut left = 0;
     while left < wide {
         let flag = flags[first + left];
-        let v = WindowPlace {
-            columns: s.columns,
-            row: top,
-            column: left,
-            height: s.height,
-            width: s.width,
-        };
-        at = pass_window(text, v, pattern, flag, symbols, places, listing, at);
+        let v = strip_window(s, left, top);
+        at = write_if_found(text, v, pattern, flag, listed, offsets, listing, at);
         left += 1;
     }
     at
@@ -58,14 +53,15 @@ pub fn write_rows(
     text: &[u8],
     pattern: &[u8],
     s: Shape,
-    symbols: Symbols,
-    places: &[u16],
+    listed: &[u8],
+    offsets: &[usize; 256],
     flags: &[u8],
     heads: &mut [usize; 256],
     listing: &mut [u8],
 ) -> usize
     requires { ⌜
-        Flagged (now text) (now pattern) s (now flags) × SymbolPlaces (now pattern) symbols (now places)
+        Flagged (now text) (now pattern) s (now flags)
+        × PairTables (now pattern) (s .columns) (s .width) (now listed) (now offsets)
         × (length (now heads) ≡ 256)
         × (startOf (pieceOf (now text) (now pattern) s) (down s * across s) ≤ length (now listing)) ⌝ }
     ensures { λ r. ⌜ r ≡ startOf (pieceOf (now (text .entry)) (now (pattern .entry)) s) (down s * across s) ⌝ }
@@ -80,7 +76,7 @@ pub fn write_rows(
     let mut top = 0;
     while top < tall {
         heads[top] = at;
-        at = write_row(text, pattern, s, top, symbols, places, flags, listing, at);
+        at = write_row(text, pattern, s, top, listed, offsets, flags, listing, at);
         top += 1;
     }
     at

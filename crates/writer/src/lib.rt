@@ -2,5 +2,6 @@
 // and no operation of its own.
 mod entries;
 mod found;
+mod offsets;
 mod strips;
 pub mod writing;

@@ -4,18 +4,18 @@ ghost use mathlib.Core.Path.{_≡_};
 ghost use Prim.Native.Nat.{_+_, _*_, _≤_, _<_};
 ghost use lib.ListN.{length};
 ghost use Rattle.shapes.specs.Shapes.{across, down};
-ghost use Rattle.grid.specs.Distinct.{distinct};
+ghost use Rattle.prefixes.specs.State.{FirstPlaces};
+ghost use Rattle.sets.specs.Symbols.{symbolsOf};
+ghost use Rattle.matching.specs.Compare.{patternAt};
 ghost use Rattle.sweep.specs.Sweep.{SweepAt};
 ghost use Rattle.listing.specs.Entries.Put.{Heads, Puts, startOf};
 ghost use Rattle.writer.specs.Listing.Windows.{Flagged};
 ghost use Rattle.writer.specs.Listing.Strips.{pieceOf, RefusedHere, RefusedIn};
+use crate::entries::strip_window;
 use crate::entries::write_refused;
 use grid::strips::Strip;
-use reach::places::first_places;
 use reach::places::no_positions;
-use sets::symbols::pattern_size;
 use shapes::shapes::Shape;
-use shapes::windows::WindowPlace;
 use sweep::own::own_ends;
 use sweep::own::own_rows;
 use sweep::steps::next_end;
@@ -38,7 +38,7 @@ fn write_strip(
     requires { ⌜
         Flagged (now text) (now pattern) s (now flags)
         × SweepAt (now text) s (now pattern) (now first) (now selves) (now earlies) × (left < across s)
-        × (size ≡ 3 + 3 * distinct (now pattern))
+        × (size ≡ 3 + 3 * length (symbolsOf (now pattern)))
         × Heads (pieceOf (now text) (now pattern) s) (across s) (down s) left (now heads)
         × (startOf (pieceOf (now text) (now pattern) s) (down s * across s) ≤ length (now listing)) ⌝ }
     ensures { λ r. ⌜
@@ -80,13 +80,7 @@ fn write_strip(
             top,
             s.height,
         );
-        let v = WindowPlace {
-            columns: s.columns,
-            row: top,
-            column: left,
-            height: s.height,
-            width: s.width,
-        };
+        let v = strip_window(s, left, top);
         heads[top] = write_refused(text, v, pattern, r.end, r.earlier, listing, at);
         row = r.row;
         reached = r.reached;
@@ -94,17 +88,21 @@ fn write_strip(
     }
 }
 
-// The records of all refused windows. heads has the place of each row's first record.
+// The records of all refused windows. heads has the place of each row's first record, size is the length of a found
+// window's records.
 pub fn write_strips(
     text: &[u8],
     pattern: &[u8],
     s: Shape,
     flags: &[u8],
+    size: usize,
+    first: &[usize; 256],
     heads: &mut [usize; 256],
     listing: &mut [u8],
 )
     requires { ⌜
-        Flagged (now text) (now pattern) s (now flags)
+        Flagged (now text) (now pattern) s (now flags) × (size ≡ 3 + 3 * length (symbolsOf (now pattern)))
+        × FirstPlaces (patternAt (now pattern)) (length (now pattern)) (now first)
         × Heads (pieceOf (now text) (now pattern) s) (across s) (down s) 0 (now heads)
         × (startOf (pieceOf (now text) (now pattern) s) (down s * across s) ≤ length (now listing)) ⌝ }
     ensures { λ r. ⌜
@@ -113,18 +111,15 @@ pub fn write_strips(
         (now (listing .exit)) ⌝ }
 {
     let wide = s.columns + 1 - s.width;
-    let size = 3 + 3 * pattern_size(pattern) as usize;
-    let mut first = no_positions();
     let mut selves = no_positions();
     let mut earlies = no_positions();
-    first_places(pattern, &mut first);
     let n = own_rows(s.height, s.rows + 1 - s.height);
     own_ends(
         pattern,
         s.height,
         s.width,
         n,
-        &first,
+        first,
         &mut selves,
         &mut earlies,
     );
@@ -137,7 +132,7 @@ pub fn write_strips(
             left,
             flags,
             size,
-            &first,
+            first,
             &selves,
             &earlies,
             heads,

@@ -1,22 +1,25 @@
 // The listing from the flags: the records of every window in their order, and the closing.
 ghost use mathlib.Core.Path.{_≡_};
-ghost use Prim.Native.Nat.{_≤_};
+ghost use Prim.Native.Nat.{_+_, _*_, _≤_};
 ghost use lib.ListN.{length};
 ghost use Rattle.shapes.specs.Questions.{asked};
 ghost use Rattle.shapes.specs.Said.{overFront};
 ghost use Rattle.theory.specs.Written.{written};
+ghost use Rattle.prefixes.specs.State.{FirstPlaces};
+ghost use Rattle.sets.specs.Symbols.{symbolsOf};
+ghost use Rattle.matching.specs.Compare.{patternAt};
 ghost use Rattle.writer.specs.Listing.{searchListing, foundIn, refusedIn};
-ghost use Rattle.writer.specs.Listing.Windows.{Flagged, SymbolPlaces, windowBytes};
+ghost use Rattle.writer.specs.Listing.Windows.{Flagged, windowBytes};
 use crate::found::write_rows;
+use crate::offsets::list_offsets;
 use crate::strips::write_strips;
 use listing::records::Record;
 use listing::records::write_record;
-use matching::places::places_of;
 use reach::places::no_positions;
-use sets::symbols::Symbols;
+use sets::symbols::list_symbols;
 use sets::symbols::symbols_of;
 use shapes::shapes::Shape;
-use shapes::tables::no_places;
+use shapes::tables::no_symbols;
 
 // The records of all windows, from the listing's first byte on; the place after them. First those of the found ones in
 // their order, then those of the refused ones strip by strip.
@@ -24,38 +27,44 @@ fn write_windows(
     text: &[u8],
     pattern: &[u8],
     s: Shape,
-    symbols: Symbols,
-    places: &[u16],
+    listed: &[u8],
+    first: &[usize; 256],
     flags: &[u8],
     listing: &mut [u8],
 ) -> usize
     requires { ⌜
-        Flagged (now text) (now pattern) s (now flags) × SymbolPlaces (now pattern) symbols (now places)
+        Flagged (now text) (now pattern) s (now flags) × (now listed ≡ symbolsOf (now pattern))
+        × FirstPlaces (patternAt (now pattern)) (length (now pattern)) (now first)
         × (length (windowBytes (now text) (now pattern) s) ≤ length (now listing)) ⌝ }
     ensures { λ r. ⌜ r ≡ length (windowBytes (now (text .entry)) (now (pattern .entry)) s) ⌝ }
     ensures { λ r. ⌜
         now (listing .exit) ≡ written (now (listing .entry)) 0
         (windowBytes (now (text .entry)) (now (pattern .entry)) s) ⌝ }
 {
+    let mut offsets = no_positions();
+    list_offsets(pattern, s.columns, s.width, listed, first, &mut offsets);
     let mut heads = no_positions();
     let end = write_rows(
         text,
         pattern,
         s,
-        symbols,
-        places,
+        listed,
+        &offsets,
         flags,
         &mut heads,
         listing,
     );
-    write_strips(text, pattern, s, flags, &mut heads, listing);
+    let size = 3 + 3 * listed.len();
+    write_strips(text, pattern, s, flags, size, first, &mut heads, listing);
     end
 }
 
-// The second step of the search: the listing from the flags, where there is room for it.
+// The second step of the search: the listing from the flags, where there is room for it, with the pattern's first
+// places.
 pub fn write_listing(
     text: &[u8],
     pattern: &[u8],
+    first: &[usize; 256],
     s: Shape,
     found: u16,
     refused: u16,
@@ -65,15 +74,16 @@ pub fn write_listing(
     requires { ⌜
         Flagged (now text) (now pattern) s (now flags) × (found ≡ foundIn (asked (now text) (now pattern) s))
         × (refused ≡ refusedIn (asked (now text) (now pattern) s))
-        × (length (searchListing (asked (now text) (now pattern) s)) ≤ length (now listing)) ⌝ }
+        × (length (searchListing (asked (now text) (now pattern) s)) ≤ length (now listing))
+        × FirstPlaces (patternAt (now pattern)) (length (now pattern)) (now first) ⌝ }
     ensures { λ r. ⌜
         now (listing .exit) ≡ overFront (searchListing (asked (now (text .entry)) (now (pattern .entry)) s))
         (now (listing .entry)) ⌝ }
 {
     let symbols = symbols_of(pattern);
-    let mut places = no_places();
-    places_of(pattern, &mut places);
-    let at = write_windows(text, pattern, s, symbols, &places, flags, listing);
+    let mut listed = no_symbols();
+    let d = list_symbols(symbols, &mut listed);
+    let at = write_windows(text, pattern, s, &listed[..d], first, flags, listing);
     let closing = Record::Closing { found, refused };
     write_record(listing, at, closing);
 }

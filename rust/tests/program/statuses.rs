@@ -136,6 +136,13 @@ fn help_and_unknown_arguments() {
     assert_eq!(help.said, "");
     assert_eq!(with(&["-h"]).output, help.output);
     let text = String::from_utf8(help.output).expect("words");
+    let says = |start: String, words: &str| {
+        let mut lines = text.lines();
+        let line = lines
+            .find(|line| line.starts_with(&start))
+            .expect("a line that begins so");
+        assert!(line.contains(words), "{line}");
+    };
     for (number, words) in [
         (1, "fewer than 4 size bytes"),
         (2, "a side is 0"),
@@ -144,12 +151,7 @@ fn help_and_unknown_arguments() {
         (4, "taller or wider than the sheet"),
         (11, "more than 65,536 bytes"),
     ] {
-        let start = format!("  refused {number} ");
-        let line = text
-            .lines()
-            .find(|line| line.starts_with(&start))
-            .expect("a refusal");
-        assert!(line.contains(words), "{line}");
+        says(format!("  refused {number} "), words);
     }
     for (status, words) in [
         (0, "a listing was printed"),
@@ -158,12 +160,7 @@ fn help_and_unknown_arguments() {
         (3, "could not be proved, compiled or run"),
         (4, "could not be written"),
     ] {
-        let start = format!("  {status}    ");
-        let line = text
-            .lines()
-            .find(|line| line.starts_with(&start))
-            .expect("a status");
-        assert!(line.contains(words), "{line}");
+        says(format!("  {status}    "), words);
     }
     for unknown in [
         &["--halp"][..],

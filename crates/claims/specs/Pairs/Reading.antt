@@ -106,6 +106,27 @@ module _ (m w : ℕ → ℕ) (n : ℕ) (listing : List ℕ) (a base at : ℕ) (g
       none true r e t = true-false t e
       none false r e t = true-false t refl
 
+  -- a pair that is right: the next one begins three bytes on, and its symbol is marked
+  pub read-right : stands listing 2 at ≡ true → (y : ℕ) → byteAt listing at 2 ≡ y → y < 256 → byteAt listing at 1 ≡ a
+      → (getD marks y 0 ≡ base → ⊥) → hasImage m w n a y ≡ true
+      → PairRead m w n listing a base at given (Goes (at + 3)) (set marks y base)
+  read-right there y second-is l first-is d image =
+      record {
+        walk-is = rw (there, right);
+        marked = λ _. rw second-is (marked-more base given marks y l here);
+        older = marked-more base given marks y l here .older;
+      }
+    where
+      right : rightPair m w n listing a given at ≡ true
+      right =
+          is-true (right-tested m w n listing a given at) (
+            first-is,
+            (
+              ap (hasImage m w n a) second-is ∙ image,
+              ap (contains given) second-is ∙ sym (here .says y l) ∙ ne-eqb (getD marks y 0) base d,
+            ),
+          )
+
   -- the reader refuses, or reads another kind
   pub pair-refused : (answer : Read) (why : Refusal) → readSaid answer ≡ cursorSaid listing at → answer ≡ Refused why
       → PairRead m w n listing a base at given (Stops (ListingForm at)) marks
@@ -156,19 +177,4 @@ module _ (m w : ℕ → ℕ) (n : ℕ) (listing : List ℕ) (a base at : ℕ) (g
     pub pair-right : x ≡ a → y < 256 → (getD marks y 0 ≡ base → ⊥) → (t : Bool) → t ≡ hasImage m w n a y → t ≡ true
         → PairRead m w n listing a base at given (Goes (next .at)) (set marks y base)
     pair-right e l d t i f =
-        record {
-          walk-is = rw (there, right) (ap Goes (whole-next listing at (Pair x y) next reads));
-          marked = λ _. rw second-is (marked-more base given marks y l here);
-          older = marked-more base given marks y l here .older;
-        }
-      where
-        right : rightPair m w n listing a given at ≡ true
-        right =
-            is-true (right-tested m w n listing a given at) (
-              first-is ∙ e,
-              (
-                ap (hasImage m w n a) second-is ∙ sym i ∙ f,
-                ap (contains given) second-is
-                    ∙ sym (here .says y l) ∙ ne-eqb (getD marks y 0) base d,
-              ),
-            )
+        rw (whole-next listing at (Pair x y) next reads) (read-right there y second-is l (first-is ∙ e) d (sym i ∙ f))

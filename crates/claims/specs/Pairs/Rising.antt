@@ -12,7 +12,7 @@ use lib.Seq.{drop-cons}
 use Rattle.theory.specs.Older.{Older}
 use Rattle.theory.specs.Test.{both}
 use Rattle.theory.specs.Test.Laws.{true-false}
-use Rattle.theory.specs.Count.Laws.{members-pass}
+use Rattle.theory.specs.Count.Laws.{length-members, count-le}
 use Rattle.grid.specs.Distinct.{contains}
 use Rattle.sets.specs.Symbols.{symbolsOf}
 use Rattle.shapes.specs.declared.refusals.Refusal.{Refusal}
@@ -59,10 +59,10 @@ pub record PairsLeft (m w : ℕ → ℕ) (n : ℕ) (listing symbols : List ℕ) 
   pub marked : Marked base before marks
   pub walk-is : whole ≡ pairsFrom m w n listing (drop i symbols) before end
 
--- a listed symbol is one of the pattern's
-pub listed-has : (pattern symbols : List ℕ) (i : ℕ) → symbols ≡ symbolsOf pattern → i < length symbols
-    → contains pattern (getD symbols i 0) ≡ true
-listed-has pattern symbols i e h = rw e (members-pass (contains pattern) 256 i (rw e at h) .1)
+-- no more than 256 symbols are listed
+pub listed-few : (pattern symbols : List ℕ) → symbols ≡ symbolsOf pattern → length symbols ≤ 256
+listed-few pattern symbols e =
+    rw e (omega (arith, length-members (contains pattern) 256, count-le (contains pattern) 256))
 
 module _ (m w : ℕ → ℕ) (n : ℕ) (listing symbols : List ℕ) (base : ℕ) where
   -- all of the pattern's

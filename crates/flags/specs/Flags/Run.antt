@@ -52,17 +52,17 @@ pub record EndsBy (pattern links : List ℕ) (start from p : ℕ) : Type 0 where
   pub hit : (t : ℕ → ℕ) → LinksFrom t links start (length pattern) → ClearTo pattern t start (start + from)
       → p < length pattern → ends (λ k. getD pattern k 0) (suffix t start) p ≡ true
 
--- the first ends of the pattern's own windows, from each of its rows on
-pub record OwnEnds (pattern : List ℕ) (width : ℕ) (selves : List ℕ) : Type 0 where
+-- the first ends of the pattern's rows from row k on against the pattern, for each k below n
+pub record OwnEnds (pattern : List ℕ) (width n : ℕ) (selves : List ℕ) : Type 0 where
   pub long : length selves ≡ 256
-  pub each : (k : ℕ) → k * width < length pattern
+  pub each : (k : ℕ) → k < n → k * width < length pattern
       → getD selves k 0
       ≡ firstEnd (λ p. getD pattern p 0) (suffix (λ p. getD pattern p 0) (k * width)) (length pattern - k * width)
 
 -- what is asked of the window at row top
 pub record WindowAsked (pattern first selves links : List ℕ) (width row reached top : ℕ) : Type 0 where
   pub places : FirstPlaces (λ k. getD pattern k 0) (length pattern) first
-  pub owns : OwnEnds pattern width selves
+  pub owns : OwnEnds pattern width (top + 1) selves
   pub room : top * width + length pattern ≤ length links
   pub small : top * width + length pattern ≤ 65025
   pub top-small : top ≤ 255

@@ -4,28 +4,31 @@
 use mathlib.Core.Path.{_≡_, refl, sym, _∙_}
 use mathlib.Core.List.{List}
 use Prim.Native.Nat.{ℕ, _+_, _*_, _≤_, _<_}
-use native.Mathlib.Nat.{mul-le-mul-right}
+use native.Mathlib.Nat.{one-mul, mul-le-mul-right}
 use native.Mathlib.Numerals.{add-one}
 use native.Mathlib.Omega.{arith}
 use lib.ListN.{length, getD, set, length-set}
 use Rattle.theory.specs.Store.{stored}
 use Rattle.theory.specs.Store.Laws.{stored-none, stored-more}
 use Rattle.shapes.specs.Shapes.{ShapeOf, across, down}
+use Rattle.shapes.specs.Shapes.Laws.{product-le}
 use Rattle.shapes.specs.Windows.{stripAt}
 use Rattle.shapes.specs.declared.shapes.Shape.{Shape}
 use Rattle.grid.specs.Distinct.{distinct}
 use Rattle.prefixes.specs.State.{FirstPlaces}
-use Rattle.sweep.specs.Sweep.{Owns, SidesOf}
+use Rattle.sweep.specs.Sweep.{Owns, SidesOf, ownRows}
+use Rattle.sweep.specs.Sweep.Own.{own-rows-in}
 use Rattle.flags.specs.declared.run.Marked.{Marked}
 use Rattle.flags.specs.Flags.{Room}
 use Rattle.flags.specs.Flags.Laws.{strip-part, strip-small}
 use Rattle.flags.specs.Flags.Strips.{flagOf, CountsAre, LinksAre, end-strip-flag}
 use Rattle.flags.specs.Flags.Run.{ClearTo, LinksFrom, OwnEnds, WindowAsked, WindowMarked}
 
--- what the pattern says by itself: the first places of its symbols, and the first ends of its own windows
-pub record Own (pattern : List ℕ) (width : ℕ) (first selves : List ℕ) : Type 0 where
+-- what the pattern says by itself: the first places of its symbols, and the first ends of its rows from each row on, for
+-- strips of n windows
+pub record Own (pattern : List ℕ) (width n : ℕ) (first selves : List ℕ) : Type 0 where
   pub places : FirstPlaces (λ k. getD pattern k 0) (length pattern) first
-  pub ends : OwnEnds pattern width selves
+  pub ends : OwnEnds pattern width n selves
 
 -- a text that the counts and the links are of
 pub record StripMeets (text pattern : List ℕ) (symbols : ℕ) (s : Shape) (left : ℕ) (counts links : List ℕ) : Type 0
@@ -61,13 +64,29 @@ pub record WindowsTo (pattern : List ℕ) (symbols : ℕ) (s : Shape) (left : �
 
 -- ---- what the pattern says by itself
 
-pub own-from : (pattern : List ℕ) (height width : ℕ) (first selves earlies : List ℕ) → SidesOf pattern height width
-    → FirstPlaces (λ k. getD pattern k 0) (length pattern) first → Owns pattern width height selves earlies
-    → Own pattern width first selves
-own-from pattern height width first selves earlies sides places owns =
+pub sides-from : (s : Shape) (pattern : List ℕ) → ShapeOf s (s .rows * s .columns)
+    → length pattern ≡ s .height * s .width → SidesOf pattern (s .height) (s .width)
+sides-from s pattern v e =
+    let z = v .sized in
+    record { cells = e; tall = omega arith; broad = omega arith; height-le = omega arith; width-le = omega arith }
+
+pub cells-some : (s : Shape) (n : ℕ) → ShapeOf s (s .rows * s .columns) → n ≡ s .height * s .width → 0 < n
+cells-some s n v e =
+    let tall : 1 ≤ s .height = omega arith in omega (arith, e, mul-le-mul-right (s .width) tall, one-mul (s .width))
+
+pub cells-few : (s : Shape) (n : ℕ) → ShapeOf s (s .rows * s .columns) → n ≡ s .height * s .width → n ≤ 65025
+cells-few s n v e = omega (arith, e, product-le (s .height) (s .width) 255 255 (omega arith) (omega arith))
+
+pub own-from : (pattern : List ℕ) (height width n : ℕ) (first selves earlies : List ℕ) → SidesOf pattern height width
+    → FirstPlaces (λ k. getD pattern k 0) (length pattern) first
+    → Owns pattern width (ownRows height n) selves earlies → Own pattern width n first selves
+own-from pattern height width n first selves earlies sides places owns =
     record {
       places = places;
-      ends = record { long = owns .selves-long; each = λ k h. owns .each k (inside k h) .end-is };
+      ends = record {
+        long = owns .selves-long;
+        each = λ k l h. owns .each k (own-rows-in height n k (inside k h) l) .end-is;
+      };
     }
   where
     inside : (k : ℕ) → k * width < length pattern → k < height
@@ -79,7 +98,7 @@ own-from pattern height width first selves earlies sides places owns =
 
 module _ (pattern first selves : List ℕ) (symbols : ℕ) (s : Shape) (left : ℕ) (counts links flags₀ : List ℕ)
     (room : Room (s .rows * s .columns) (length pattern) s (length links) (length counts) (length flags₀))
-    (beside : left < across s) (own : Own pattern (s .width) first selves) where
+    (beside : left < across s) (own : Own pattern (s .width) (down s) first selves) where
   pub windows-first : WindowsTo pattern symbols s left counts links flags₀ 0 0 0 flags₀
   windows-first =
       record {
@@ -106,7 +125,7 @@ module _ (pattern first selves : List ℕ) (symbols : ℕ) (s : Shape) (left : �
         let v = room .shape in
         record {
           places = own .places;
-          owns = own .ends;
+          owns = record { long = own .ends .long; each = λ k l. own .ends .each k (omega arith) };
           room = omega (arith, part, room .links-room);
           small = omega (arith, part, strip-small s _ (room .shape));
           top-small = omega arith;

@@ -26,7 +26,7 @@ use Rattle.shapes.specs.declared.refusals.Outcome.{Outcome}
 use Rattle.shapes.specs.declared.refusals.Outcome.the-variants.{Accepted, Refused}
 use Rattle.shapes.specs.Windows.{windowCells, rowCells}
 use Rattle.shapes.specs.Windows.Laws.{corner-row, corner-column, row-inside, length-row-le, length-cells, cells-none}
-use Rattle.shapes.specs.Windows.Laws.{cells-last-row, cells-first-row}
+use Rattle.shapes.specs.Windows.Laws.{length-row, cells-last-row, cells-first-row}
 use Rattle.grid.specs.Distinct.{distinct}
 use Rattle.grid.specs.Occurrences.{Occurrences, Tracks, RoomToAdd, Adds}
 use Rattle.grid.specs.Occurrences.Laws.{size-le}
@@ -102,27 +102,33 @@ module _ (text : List ℕ) (s : Shape) (left : ℕ) (shape : ShapeOf s (length t
   window-small : s .height * s .width ≤ 255 * 255
   window-small = product-le (s .height) (s .width) 255 255 (omega arith) (omega arith)
 
+  -- a row is as long as the strip is wide
+  pub row-long : (at : ℕ) (row : List ℕ) → row ≡ rowCells text (s .columns) at left (s .width) → at < s .rows
+      → length row ≡ s .width
+  row-long at row e h = rw e (length-row text (s .columns) at left (s .width) (row-fits at h))
+
   -- there is room for one row more
+  pub room-below : (top n at : ℕ) (row : List ℕ) → n ≤ s .height → row ≡ rowCells text (s .columns) at left (s .width)
+      → length (stripCells text s top left n) + length row ≤ 65535
+  room-below top n at row h e =
+      rw e (omega (
+        arith,
+        length-cells text (s .columns) left (s .width) top n,
+        length-row-le text (s .columns) at left (s .width),
+        window-small,
+        mul-le-mul-right (s .width) h,
+      ))
+
   pub room-row : (o : Occurrences) (top n at : ℕ) (row : List ℕ) → n ≤ s .height
       → Tracks o (stripCells text s top left n) → row ≡ rowCells text (s .columns) at left (s .width)
       → RoomToAdd o (length row)
-  room-row o top n at row h k e = (
-    stripCells text s top left n,
-    k,
-    rw e (omega (
-      arith,
-      length-cells text (s .columns) left (s .width) top n,
-      length-row-le text (s .columns) at left (s .width),
-      window-small,
-      mul-le-mul-right (s .width) h,
-    )),
-  )
+  room-row o top n at row h k e = (stripCells text s top left n, k, room-below top n at row h e)
 
   -- a row enters at the bottom
-  pub add-bottom : (o r : Occurrences) (top n m at : ℕ) (row : List ℕ) → Tracks o (stripCells text s top left n)
-      → row ≡ rowCells text (s .columns) at left (s .width)
-      → at ≡ top + n → m ≡ n + 1 → at < s .rows → Adds o row r → Tracks r (stripCells text s top left m)
-  add-bottom o r top n m at row k e i j h a =
+  pub bottom-last : (r : Occurrences) (top n m at : ℕ) (row : List ℕ)
+      → row ≡ rowCells text (s .columns) at left (s .width) → at ≡ top + n → m ≡ n + 1 → at < s .rows
+      → Tracks r (stripCells text s top left n ++ row) → Tracks r (stripCells text s top left m)
+  bottom-last r top n m at row e i j h k =
       rw (
         j,
         add-one,
@@ -131,7 +137,13 @@ module _ (text : List ℕ) (s : Shape) (left : ℕ) (shape : ShapeOf s (length t
         ← i,
         ← e,
       )
-      (a (stripCells text s top left n) k)
+      k
+
+  pub add-bottom : (o r : Occurrences) (top n m at : ℕ) (row : List ℕ) → Tracks o (stripCells text s top left n)
+      → row ≡ rowCells text (s .columns) at left (s .width)
+      → at ≡ top + n → m ≡ n + 1 → at < s .rows → Adds o row r → Tracks r (stripCells text s top left m)
+  add-bottom o r top n m at row k e i j h a =
+      bottom-last r top n m at row e i j h (a (stripCells text s top left n) k)
 
   -- the top row stands first
   pub top-first : (o : Occurrences) (top n : ℕ) (row : List ℕ) → 1 ≤ n → top < s .rows

@@ -3,7 +3,7 @@
 -- Assumes nothing.
 use mathlib.Core.Path.{_≡_, refl, sym, ap, _∙_, subst}
 use mathlib.Core.Bool.{Bool, true, false}
-use mathlib.Core.List.{List, [], _∷_, _++_}
+use mathlib.Core.List.{List, [], _∷_, _++_, append-nil, append-assoc}
 use Prim.Native.Nat.{ℕ, zero, suc, _+_, _≤_, _<_}
 use native.Mathlib.Nat.{zero-add}
 use native.Mathlib.Decide.{ℕ-discrete}
@@ -155,6 +155,13 @@ distinct-snoc (x ∷ xs) v = go (distinct-snoc xs v) (ℕ-discrete x v)
         ∙ subst (λ (w : ℕ). distinct (xs ++ (w ∷ [])) ≡ distinct (w ∷ xs)) (sym e) ih
         ∙ sym (distinct-old x (x ∷ xs) (omega (arith, occurs-hit x xs))))
     go ih (no n) = apart ih n
+
+-- and so does a whole list
+pub distinct-turned : (ys xs : List ℕ) → distinct (ys ++ xs) ≡ distinct (xs ++ ys)
+distinct-turned [] xs = ap distinct (sym (append-nil xs))
+distinct-turned (y ∷ ys) xs =
+    sym (distinct-snoc (ys ++ xs) y) ∙ ap distinct (append-assoc ys xs (y ∷ []))
+    ∙ distinct-turned ys (xs ++ (y ∷ [])) ∙ ap distinct (append-assoc xs (y ∷ []) ys)
 
 -- ---- the same of a sequence: a position counts exactly if no earlier one has its symbol
 

@@ -1,7 +1,7 @@
 -- A symbol in, a symbol out, and whole rows: the table of occurrences goes on tracking its list. An occurrence count
 -- changes at one symbol alone, and the number of different ones where that count leaves or reaches 0.
 -- Assumes nothing.
-use mathlib.Core.Path.{_≡_, sym, _∙_}
+use mathlib.Core.Path.{_≡_, sym, _∙_, subst}
 use mathlib.Core.List.{List, [], _∷_, _++_, append-assoc}
 use Prim.Native.Nat.{ℕ, suc, _+_, _-_, _≤_, _<_}
 use native.Mathlib.Decide.{ℕ-discrete}
@@ -9,7 +9,7 @@ use native.Mathlib.Numerals.{add-one}
 use native.Mathlib.Omega.{arith}
 use lib.Dec.{eqb}
 use lib.ListN.{length, getD, set, take, drop, length-append, length-set, drop-of-length-le}
-use lib.Seq.{take-suc, drop-cons, take-all, length-take-le}
+use lib.Seq.{take-suc, drop-cons, take-all, length-take-le, ext-getD}
 use borrow.Author.Tests.{eq-eqb, ne-eqb}
 use Rattle.theory.specs.Test.{pick}
 use Rattle.theory.specs.Test.Laws.{pick-true, pick-false}
@@ -17,8 +17,9 @@ use Rattle.theory.specs.Store.Laws.{set-right}
 use Rattle.grid.specs.Distinct.{occurs, distinct}
 use Rattle.grid.specs.Distinct.Laws.{occurs-none, occurs-hit, occurs-miss, occurs-snoc-hit, occurs-snoc-miss}
 use Rattle.grid.specs.Distinct.Laws.{occurs-le, distinct-none, distinct-new, distinct-old, distinct-snoc}
-use Rattle.grid.specs.Distinct.Laws.{distinct-le, distinct-some}
+use Rattle.grid.specs.Distinct.Laws.{distinct-le, distinct-some, distinct-turned, occurs-append}
 use Rattle.grid.specs.Occurrences.{Occurrences, occurrencesOf, Tracks, RoomToAdd, Starts, Adds, Removes, Dropped}
+use Rattle.grid.specs.Occurrences.{Replaces, AlikeTo}
 
 -- ---- one symbol in, one symbol out
 
@@ -99,3 +100,62 @@ module _ (o n : Occurrences) (row : List ℕ) (i : ℕ) where
 
   pub dropped-all : length row ≤ i → Dropped o row i n → Removes o row n
   dropped-all h a xs k = rw drop-of-length-le at (a xs k)
+
+-- two symbols in a round, of which place i is the second
+module _ (o n m : Occurrences) (row : List ℕ) (i : ℕ) (second : 1 ≤ i) where
+  back-again : i - 1 + 1 ≡ i
+  back-again = omega arith
+
+  round-on : i + 1 ≡ i + 2 - 1
+  round-on = omega arith
+
+  module _ (inside : i ≤ length row) where
+    pub adds-first : Adds o (take (i - 1) row) n → Adds n (getD row (i - 1) 0 ∷ []) m → Adds o (take i row) m
+    adds-first a b =
+        subst (λ (k : ℕ). Adds o (take k row) m) back-again (adds-more o n row (i - 1) m (omega arith) a b)
+
+    pub dropped-first : Dropped o row (i - 1) n → Removes n (getD row (i - 1) 0 ∷ []) m → Dropped o row i m
+    dropped-first a b =
+        subst (λ (k : ℕ). Dropped o row k m) back-again (dropped-more o n row (i - 1) m (omega arith) a b)
+
+  module _ (inside : i < length row) (r : Occurrences) where
+    pub adds-two : Adds o (take (i - 1) row) n → Adds n (getD row (i - 1) 0 ∷ []) m → Adds m (getD row i 0 ∷ []) r
+        → Adds o (take (i + 2 - 1) row) r
+    adds-two a b c =
+        subst (λ (k : ℕ). Adds o (take k row) r) round-on
+        (adds-more o m row i r inside (adds-first (omega arith) a b) c)
+
+    pub dropped-two : Dropped o row (i - 1) n → Removes n (getD row (i - 1) 0 ∷ []) m
+        → Removes m (getD row i 0 ∷ []) r → Dropped o row (i + 2 - 1) r
+    dropped-two a b c =
+        subst (λ (k : ℕ). Dropped o row k r) round-on
+        (dropped-more o m row i r inside (dropped-first (omega arith) a b) c)
+
+-- ---- rows alike
+
+-- how often a symbol occurs does not depend on the order
+tracks-turned : (o : Occurrences) (ys xs : List ℕ) → Tracks o (ys ++ xs) → Tracks o (xs ++ ys)
+tracks-turned o ys xs k =
+    record {
+      long = k .long;
+      each = λ v h. omega (arith, k .each v h, occurs-append v ys xs, occurs-append v xs ys);
+      size-is = k .size-is ∙ distinct-turned ys xs;
+    }
+
+-- a row that is replaced by one that is alike leaves the occurrences as they are
+pub alike-replaced : (o : Occurrences) (ys zs : List ℕ) → ys ≡ zs → Replaces o ys zs o
+alike-replaced o ys zs e xs k = rw (← e) (tracks-turned o ys xs k)
+
+module _ (ys zs : List ℕ) where
+  pub alike-none : AlikeTo ys zs 0
+  alike-none k h = absurd (omega arith)
+
+  pub alike-more : (i : ℕ) → AlikeTo ys zs i → getD ys i 0 ≡ getD zs i 0 → AlikeTo ys zs (i + 1)
+  alike-more i a e k h = go (ℕ-discrete k i)
+    where
+      go : Dec (k ≡ i) → getD ys k 0 ≡ getD zs k 0
+      go (yes d) = rw d e
+      go (no d) = a k (omega arith)
+
+  pub alike-all : (i : ℕ) → length ys ≡ length zs → length ys ≤ i → AlikeTo ys zs i → ys ≡ zs
+  alike-all i l h a = ext-getD 0 ys zs l (λ k b. a k (omega arith))

@@ -27,9 +27,6 @@ pub record RowAt (v : WindowPlace) (i start from : ℕ) : Type 0 where
   pub from-is : from ≡ i * v .width
 
 module _ (v : WindowPlace) where
-  pub row-first : (start : ℕ) → start ≡ v .row * v .columns + v .column → RowAt v 0 start 0
-  row-first start e = record { within = omega arith; start-is = rw add-zero e; from-is = rw zero-mul }
-
   -- all rows are behind
   pub rows-behind : (i start from : ℕ) → v .height ≤ i → RowAt v i start from → from ≡ cellCount v
   rows-behind i start from h here =

@@ -68,7 +68,8 @@ has-set P v h =
 same-words : (s t : Symbols) → s .w0 ≡ t .w0 → s .w1 ≡ t .w1 → s .w2 ≡ t .w2 → s .w3 ≡ t .w3 → s ≡ t
 same-words s t a b c d = λ i. record { w0 = a i; w1 = b i; w2 = c i; w3 = d i }
 
-words-set : (s : Symbols) (P : ℕ → Bool) → ((i : ℕ) → i < 4 → wordIn s i ≡ wordOf (λ k. P (64 * i + k)) 64)
+-- a set whose words are those of P
+pub words-set : (s : Symbols) (P : ℕ → Bool) → ((i : ℕ) → i < 4 → wordIn s i ≡ wordOf (λ k. P (64 * i + k)) 64)
     → s ≡ setOf P
 unfolding wordIn
 words-set s P h =
@@ -160,14 +161,6 @@ module _ (s : Symbols) (v : ℕ) (b : Bool) (small : SmallWords s) where
       Symbols} (record { w0 = s .w0; w1 = s .w1; w2 = s .w2; w3 = x }) (setOf (λ u. pick (eqb u v) b (has s u)))
   unfolding wordIn
   changed-3 x m l h = changed 3 x (omega arith) h
-
--- no bit is set: the empty set
-pub empty-set : _≡_ {A = Symbols} (record { w0 = 0; w1 = 0; w2 = 0; w3 = 0 }) (setOf (λ v. false))
-unfolding wordIn setOf
-empty-set = same-words _ (setOf (λ v. false)) none none none none
-  where
-    none : 0 ≡ wordOf (λ k. false) 64
-    none = sym (word-none 64)
 
 -- the ones of word i are the symbols 64 i to 64 i + 63 of the set
 ones-block : (s : Symbols) → SmallWords s → (i : ℕ) → ones (wordIn s i) ≡ count (λ k. has s (64 * i + k)) 64

@@ -2,7 +2,7 @@
 -- leaves nothing.
 -- Assumes nothing.
 use mathlib.Core.Path.{_≡_, refl, sym, ap, _∙_}
-use mathlib.Core.Bool.{Bool, true, false}
+use mathlib.Core.Bool.{false}
 use mathlib.Core.List.{List, [], _∷_}
 use Prim.Native.Nat.{ℕ, zero, suc, _≤_, _<_}
 use native.Mathlib.Decide.{decLt}
@@ -11,7 +11,7 @@ use lib.Dec.{eqb}
 use lib.ListN.{length}
 use borrow.Author.Tests.{eq-eqb, ne-eqb}
 use Rattle.theory.specs.Test.{pick}
-use Rattle.theory.specs.Test.Laws.{pick-true, pick-false, true-false}
+use Rattle.theory.specs.Test.Laws.{pick-true, pick-false}
 use Rattle.theory.specs.First.{First}
 use Rattle.theory.specs.First.Laws.{first-spec}
 use Rattle.theory.specs.Count.{count, members, Rising}
@@ -57,19 +57,6 @@ members-over s h = members-none (has s) 256 (λ k l. first-spec (has s) 256 .bef
 pub members-less : (s rest : Symbols) (a : ℕ) → rest ≡ withoutSymbol s a → a ≡ lowestOf s → a < 256
     → length (members (has rest) 256) < length (members (has s) 256)
 members-less s rest a r e h = rw (r, e) (let m = ap length (members-lowest s (omega arith)) in omega arith)
-
--- the lowest one is in the set
-pub lowest-has : (s : Symbols) (a : ℕ) → a ≡ lowestOf s → a < 256 → has s a ≡ true
-lowest-has s a e h = ap (has s) e ∙ first-spec (has s) 256 .hit (omega arith)
-
--- and so are those that are left without any one
-pub without-has : (s rest : Symbols) (a b : ℕ) → rest ≡ withoutSymbol s a → b < 256 → has rest b ≡ true → has s b ≡ true
-without-has s rest a b r h t =
-    go (eqb b a) (sym (has-set (λ u. pick (eqb u a) false (has s u)) b h) ∙ ap (λ (x : Symbols). has x b) (sym r) ∙ t)
-  where
-    go : (c : Bool) → pick c false (has s b) ≡ true → has s b ≡ true
-    go true x = absurd (true-false x refl)
-    go false x = x
 
 -- taking one out leaves one less
 size-without : (s : Symbols) (n : ℕ) → sizeOf s ≡ suc n → sizeOf (withoutSymbol s (lowestOf s)) ≡ n

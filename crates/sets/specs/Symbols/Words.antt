@@ -1,4 +1,4 @@
--- The bits of a word: a word below 2 ^ n is its n bits, and what setting or clearing one bit, the count of its ones and
+-- The bits of a word: a word below 2 ^ n is its n bits, and what clearing one bit, the count of its ones and
 -- the count of its trailing zeros do to them or say of them. Each law goes by one bit at a time: the lowest bit is w %
 -- 2, and the others are the bits of w / 2.
 -- Assumes nothing.
@@ -9,8 +9,7 @@ use native.Mathlib.Nat.{le-of-suc-le-suc, div-one, one-mul, pow-suc}
 use native.Mathlib.Numerals.{add-one, one-add}
 use native.Mathlib.Omega.{arith}
 use lib.Dec.{eqb, eqb·zero-suc, eqb·suc-zero, eqb·suc-suc}
-use lib.Pow.{shr-shr, shr-lt, shl-exact, pow-lt}
-use lib.Bits.{bitOr, or-step, or-zero-r, or-lt}
+use lib.Pow.{shr-shr, shr-lt, shl-exact}
 use lib.Count.{ones, ones-step, under, trailingZeros}
 use borrow.Author.Tests.{eq-eqb, ne-eqb, eqb-true, eqb-false}
 use Rattle.theory.specs.Test.{pick, Tested, holds, fails}
@@ -20,6 +19,9 @@ use Rattle.theory.specs.First.Laws.{first-ext}
 use Rattle.theory.specs.Count.{count}
 use Rattle.theory.specs.Count.Laws.{count-ext, count-front}
 use Rattle.sets.specs.Symbols.{bitOf, wordOf}
+
+double : (k : ℕ) → 2 ^ suc k ≡ 2 * 2 ^ k
+double k = pow-suc 2 k ∙ omega arith
 
 -- the lowest bit, and the others
 bit-low : (w : ℕ) → bitOf w 0 ≡ eqb (w % 2) 1
@@ -92,6 +94,16 @@ unfolding wordOf
 word-none zero = refl
 word-none (suc n) = ap (λ (v : ℕ). 0 + 2 * v) (word-none n)
 
+-- n bits make a word below 2 ^ n
+pub word-below : (P : ℕ → Bool) (n : ℕ) → wordOf P n < 2 ^ n
+unfolding wordOf
+word-below P zero = omega arith
+word-below P (suc n) = go (P zero) (word-below (λ k. P (suc k)) n)
+  where
+    go : (b : Bool) → wordOf (λ k. P (suc k)) n < 2 ^ n → pick b 1 0 + 2 * wordOf (λ k. P (suc k)) n < 2 ^ suc n
+    go true h = omega (arith, double n)
+    go false h = omega (arith, double n)
+
 pub bit-zero : (k : ℕ) → bitOf 0 k ≡ false
 bit-zero zero = low-bit 0 false refl
 bit-zero (suc k) = bit-next 0 k ∙ bit-zero k
@@ -123,28 +135,6 @@ trailing-first (suc n) w =
     ap₂ under (low-digit w) (trailing-first n (w / 2)
     ∙ first-ext (bitOf (w / 2)) (λ k. bitOf w (suc k)) n (λ k _. sym (bit-next w k)))
     ∙ under-pick (bitOf w 0) (first (λ k. bitOf w (suc k)) n)
-
-double : (k : ℕ) → 2 ^ suc k ≡ 2 * 2 ^ k
-double k = pow-suc 2 k ∙ omega arith
-
--- one bit more: only bit k of w | 2 ^ k can differ from w's
-pub bit-or : (k j w : ℕ) → bitOf (bitOr w (2 ^ k)) j ≡ pick (eqb j k) true (bitOf w j)
-bit-or zero zero w = low-bit _ true (omega (arith, or-step w 1))
-bit-or zero (suc j) w =
-    bit-next (bitOr w 1) j ∙ ap (λ (u : ℕ). bitOf u j) half ∙ sym (bit-next w j)
-    ∙ sym (pick-false true (bitOf w (suc j)) (eqb·suc-zero j))
-  where
-    half : bitOr w 1 / 2 ≡ w / 2
-    half = omega (arith, or-step w 1, or-zero-r (w / 2))
-bit-or (suc k) zero w =
-    low-bit _ (bitOf w 0) (omega (arith, or-step w (2 ^ suc k), double k, low-digit w))
-    ∙ sym (pick-false true (bitOf w 0) (eqb·zero-suc k))
-bit-or (suc k) (suc j) w =
-    bit-next (bitOr w (2 ^ suc k)) j ∙ ap (λ (u : ℕ). bitOf u j) half ∙ bit-or k j (w / 2)
-    ∙ ap₂ (λ (t b : Bool). pick t true b) (sym (eqb·suc-suc j k)) (sym (bit-next w j))
-  where
-    half : bitOr w (2 ^ suc k) / 2 ≡ bitOr (w / 2) (2 ^ k)
-    half = let p : 2 ^ suc k / 2 ≡ 2 ^ k = omega (arith, double k) in rw (or-step w (2 ^ suc k), p) (omega arith)
 
 -- a word with bit k is at least 2 ^ k
 pub bit-least : (k w : ℕ) → bitOf w k ≡ true → 2 ^ k ≤ w
@@ -191,9 +181,6 @@ module _ (w k : ℕ) where
   test-absent d = ne-eqb (w / 2 ^ k % 2) 1 d
 
   module _ (n : ℕ) (small : w < 2 ^ n) where
-    pub set-word : k < n → bitOr w (2 ^ k) ≡ wordOf (λ j. pick (eqb j k) true (bitOf w j)) n
-    set-word h = word-is _ n (bitOr w (2 ^ k)) (or-lt n w (2 ^ k) small (pow-lt h)) (λ j _. bit-or k j w)
-
     pub cleared-word : bitOf w k ≡ true → w - 2 ^ k ≡ wordOf (λ j. pick (eqb j k) false (bitOf w j)) n
     cleared-word e = word-is _ n (w - 2 ^ k) (omega arith) (λ j _. bit-sub k j w e)
 

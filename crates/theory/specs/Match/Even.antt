@@ -98,9 +98,6 @@ module _ (m w : ℕ → ℕ) where
           let e : q ≡ p = omega arith in
           record { there = λ _. ap w e; back = λ _. ap m e }
 
-  pub even-ends : (n : ℕ) → Even n → (k : ℕ) → k < n → ends m w k ≡ false
-  even-ends n a k h = ends-not k (λ q hq. a q k (omega arith) h)
-
   pub maps-even : (n : ℕ) (f : ℕ → ℕ) → Maps m w n f → Even n
   maps-even n f r q p hq hp =
       record {

@@ -1,8 +1,8 @@
--- The records of one window are those of its answer: a found window's pairs have the window's symbols at any place of
--- each symbol, and a refused window's record has the mismatch that ends first and then begins first.
+-- The records of one window are those of its answer: a found window's pairs have the window's symbols at the first
+-- place of each symbol, and a refused window's record has the mismatch that ends first and then begins first.
 -- Assumes nothing.
 use mathlib.Core.Path.{_≡_, refl, sym, _∙_, ap}
-use mathlib.Core.Bool.{Bool, true}
+use mathlib.Core.Bool.{Bool}
 use mathlib.Core.List.{List, [], _∷_}
 use Prim.Native.Nat.{ℕ, _+_, _*_, _/_, _%_, _<_}
 use native.Mathlib.Nat.{mod-lt, div-lt-iff-lt-mul}
@@ -11,20 +11,15 @@ use lib.Dec.{eqb}
 use lib.ListN.{length, getD}
 use Rattle.theory.specs.Test.{pick, Tested, holds, fails}
 use Rattle.theory.specs.Test.Laws.{lt-tested}
-use Rattle.theory.specs.Count.{members}
-use Rattle.theory.specs.Count.Laws.{members-ext, members-pass}
+use Rattle.theory.specs.Count.Laws.{members-pass}
 use Rattle.theory.specs.Match.{Answer, matched, mismatched, isMatch, answerOf, imageOf, firstEnd, earliest}
 use Rattle.theory.specs.Match.{mismatchEnding}
 use Rattle.theory.specs.Match.Even.{Even, maps-even, even-carries, earliest-le}
 use Rattle.theory.specs.Match.Answers.{match-iff}
-use Rattle.sets.specs.Symbols.{has, symbolSet, symbolsOf}
-use Rattle.sets.specs.Symbols.Patterns.{has-symbol-set}
+use Rattle.sets.specs.Symbols.{symbolsOf}
 use Rattle.grid.specs.Distinct.{contains}
-use Rattle.sets.specs.declared.symbols.Symbols.{Symbols}
 use Rattle.matching.specs.Compare.{patternAt, windowOf, cellCount, Placed}
 use Rattle.matching.specs.Compare.Verdicts.{answer-mismatch, answer-match}
-use Rattle.matching.specs.Places.{PlacesOf}
-use Rattle.matching.specs.Places.Laws.{symbol-stands}
 use Rattle.matching.specs.Windows.{SmallPlace}
 use Rattle.shapes.specs.declared.windows.WindowPlace.{WindowPlace}
 use Rattle.listing.specs.Records.{bytesOf}
@@ -34,20 +29,15 @@ use Rattle.listing.specs.declared.records.Record.{Record}
 use Rattle.listing.specs.declared.records.Record.the-variants.{Found}
 use Rattle.writer.specs.Listing.{entryAt}
 use Rattle.writer.specs.Listing.Length.{length-entry}
+use Rattle.writer.specs.Listing.Offsets.{PairTables, firstPlace, place-stands}
 
--- the window's symbol at the place of each symbol
+-- the window's symbol at the first place of each symbol
 abbrev pub imagesAt : List ℕ → WindowPlace → List ℕ → ℕ → ℕ
-imagesAt text v places a = windowOf text v (getD places a 0)
+imagesAt text v pattern a = windowOf text v (firstPlace pattern a)
 
--- the places of a set's symbols lie in the window
-pub record Standing (symbols : Symbols) (places : List ℕ) (v : WindowPlace) : Type 0 where
-  pub long : length places ≡ 256
-  pub inside : (a : ℕ) → a < 256 → has symbols a ≡ true → getD places a 0 < cellCount v
-
--- a found window's records, read at the places
-abbrev pub foundRecords : List ℕ → WindowPlace → Symbols → List ℕ → List Record
-foundRecords text v symbols places =
-    Found (v .row) (v .column) ∷ pairsOf (imagesAt text v places) (members (has symbols) 256)
+-- a found window's records, read at the first places
+abbrev pub foundRecords : List ℕ → WindowPlace → List ℕ → List Record
+foundRecords text v pattern = Found (v .row) (v .column) ∷ pairsOf (imagesAt text v pattern) (symbolsOf pattern)
 
 -- a window that the pattern does not match
 pub record Unmatched (text : List ℕ) (v : WindowPlace) (pattern : List ℕ) : Type 0 where
@@ -56,63 +46,45 @@ pub record Unmatched (text : List ℕ) (v : WindowPlace) (pattern : List ℕ) : 
   pub size : length pattern ≡ cellCount v
   pub none : answerOf (patternAt pattern) (windowOf text v) (cellCount v) ≡ matched → ⊥
 
--- a window with its flag, the pattern's symbols and their places
-pub record Answered (text : List ℕ) (v : WindowPlace) (pattern : List ℕ) (flag : ℕ) (symbols : Symbols)
-    (places : List ℕ) : Type 0 where
+-- a window with its flag, and the tables that its pairs are read by
+pub record Answered (text : List ℕ) (v : WindowPlace) (pattern : List ℕ) (flag : ℕ) (listed offsets : List ℕ)
+    : Type 0 where
   pub placed : Placed text v
   pub small : SmallPlace v
   pub size : length pattern ≡ cellCount v
   pub flag-is : flag ≡ pick (isMatch (answerOf (patternAt pattern) (windowOf text v) (cellCount v))) 1 0
-  pub symbols-are : symbols ≡ symbolSet pattern
-  pub places-are : PlacesOf pattern places
+  pub tables : PairTables pattern (v .columns) (v .width) listed offsets
 
 -- ---- a found window
 
 module _ (text : List ℕ) (v : WindowPlace) (pattern : List ℕ) where
-  pub standing : (symbols : Symbols) (places : List ℕ) → symbols ≡ symbolSet pattern → PlacesOf pattern places
-      → length pattern ≡ cellCount v → Standing symbols places v
-  standing symbols places e h size =
-      record {
-        long = h .long;
-        inside =
-            λ a l t. let s = symbol-stands pattern places h a
-            (sym (has-symbol-set pattern a l) ∙ ap (λ (x : Symbols). has x a) (sym e) ∙ t) in omega (arith, s .0);
-      }
-
-  -- the records read at the places are those of the answer
-  pub found-records : (symbols : Symbols) (places : List ℕ) → symbols ≡ symbolSet pattern → PlacesOf pattern places
-      → length pattern ≡ cellCount v
+  -- the records read at the first places are those of the answer
+  pub found-records : length pattern ≡ cellCount v
       → answerOf (patternAt pattern) (windowOf text v) (cellCount v) ≡ matched
-      → foundRecords text v symbols places ≡ entryAt text pattern v
-  found-records symbols places e h size yes-matched =
-      ap (λ (xs : List ℕ). Found (v .row) (v .column) ∷ pairsOf (imagesAt text v places) xs) listed
-      ∙ ap (λ (rs : List Record). Found (v .row) (v .column) ∷ rs)
-      (pairs-ext (imagesAt text v places) (imageOf (patternAt pattern) (windowOf text v) (cellCount v))
+      → foundRecords text v pattern ≡ entryAt text pattern v
+  found-records size yes-matched =
+      ap (λ (rs : List Record). Found (v .row) (v .column) ∷ rs)
+      (pairs-ext (imagesAt text v pattern) (imageOf (patternAt pattern) (windowOf text v) (cellCount v))
       (symbolsOf pattern) same)
       ∙ sym (entry-found (v .row) (v .column) (v .width) (symbolsOf pattern)
       (imageOf (patternAt pattern) (windowOf text v) (cellCount v)))
       ∙ ap (entryOf (v .row) (v .column) (v .width) (symbolsOf pattern)
       (imageOf (patternAt pattern) (windowOf text v) (cellCount v))) (sym yes-matched)
     where
-      listed : members (has symbols) 256 ≡ symbolsOf pattern
-      listed =
-          members-ext (has symbols) (contains pattern) 256
-          (λ a l. ap (λ (x : Symbols). has x a) e ∙ has-symbol-set pattern a l)
-
       even : Even (patternAt pattern) (windowOf text v) (cellCount v)
       even =
           let f = match-iff (patternAt pattern) (windowOf text v) (cellCount v) .0 yes-matched in
           maps-even (patternAt pattern) (windowOf text v) (cellCount v) (f .0) (f .1)
 
       same : (i : ℕ) → i < length (symbolsOf pattern)
-          → imagesAt text v places (getD (symbolsOf pattern) i 0)
+          → imagesAt text v pattern (getD (symbolsOf pattern) i 0)
           ≡ imageOf (patternAt pattern) (windowOf text v) (cellCount v) (getD (symbolsOf pattern) i 0)
       same i l =
           let a = getD (symbolsOf pattern) i 0 in
-          let s = symbol-stands pattern places h a (members-pass (contains pattern) 256 i l .1) in
+          let s = place-stands pattern a (members-pass (contains pattern) 256 i l .1) in
           sym
           (ap (imageOf (patternAt pattern) (windowOf text v) (cellCount v)) (sym (s .1))
-          ∙ even-carries (patternAt pattern) (windowOf text v) (cellCount v) even (getD places a 0)
+          ∙ even-carries (patternAt pattern) (windowOf text v) (cellCount v) even (firstPlace pattern a)
           (omega (arith, s .0)))
 
   -- the flag says which

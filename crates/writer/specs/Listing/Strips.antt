@@ -17,9 +17,9 @@ use Rattle.theory.specs.Test.Laws.{eq-tested, lt-tested, pick-true}
 use Rattle.theory.specs.Join.{joined}
 use Rattle.theory.specs.Join.Laws.{joined-zero, joined-suc}
 use Rattle.shapes.specs.Windows.Laws.{corner-row, corner-column}
-use Rattle.theory.specs.Count.Laws.{count-le}
-use Rattle.grid.specs.Distinct.{contains, distinct}
-use Rattle.grid.specs.Distinct.Sets.{distinct-count}
+use Rattle.theory.specs.Count.Laws.{count-le, length-members}
+use Rattle.grid.specs.Distinct.{contains}
+use Rattle.sets.specs.Symbols.{symbolsOf}
 use Rattle.grid.specs.Counts.Laws.{windows-covered}
 use Rattle.shapes.specs.Shapes.{across, down}
 use Rattle.shapes.specs.declared.shapes.Shape.{Shape}
@@ -33,7 +33,7 @@ use Rattle.theory.specs.Written.{written}
 use Rattle.listing.specs.Entries.{bytesAll}
 use Rattle.listing.specs.Entries.Laws.{bytes-none, bytes-append}
 use Rattle.writer.specs.Listing.{entryAt, entryOfWindow}
-use Rattle.writer.specs.Listing.Length.{length-symbols, length-window}
+use Rattle.writer.specs.Listing.Length.{length-window}
 use Rattle.writer.specs.Listing.Totals.{match-test}
 use Rattle.writer.specs.Listing.Windows.{Flagged, windowBytes}
 use Rattle.listing.specs.Entries.Put.{startOf, start-zero, start-suc, Puts, puts-none, puts-same, puts-then, puts-more}
@@ -221,21 +221,21 @@ module _ (text pattern : List ℕ) (s : Shape) where
           })
 
   -- how many bytes a window has, by its flag
-  module _ (flags : List ℕ) (f : Flagged text pattern s flags) (small : (k : ℕ) → getD pattern k 0 < 256) (size : ℕ)
-      (d : size ≡ 3 + 3 * distinct pattern) where
+  module _ (flags : List ℕ) (f : Flagged text pattern s flags) (size : ℕ)
+      (d : size ≡ 3 + 3 * length (symbolsOf pattern)) where
     piece-length : (k : ℕ) → k < down s * across s
         → length (pieceOf text pattern s k) ≡ pick (eqb (getD flags k 0) 1) size 7
     unfolding pieceOf
     piece-length k h =
-        rw (d, ← length-symbols pattern small, match-test text pattern s flags (f .flags-are) k h)
+        rw (d, match-test text pattern s flags (f .flags-are) k h)
         (length-window (asked text pattern s) k)
 
     pub found-length : (k : ℕ) → k < down s * across s → getD flags k 0 ≡ 1 → size ≡ length (pieceOf text pattern s k)
     found-length k h e = sym (piece-length k h ∙ pick-true _ _ (eq-eqb _ _ e))
 
-    -- a pattern of bytes has at most 256 symbols, so the place behind a window is a small number
+    -- at most 256 symbols are listed, so the place behind a window is a small number
     size-small : size ≤ 771
-    size-small = omega (arith, d, distinct-count pattern 256 (λ i h. small i), count-le (contains pattern) 256)
+    size-small = omega (arith, d, length-members (contains pattern) 256, count-le (contains pattern) 256)
 
     start-small : (k : ℕ) → k ≤ down s * across s → startOf (pieceOf text pattern s) k ≤ 771 * k
     start-small zero h = omega (arith, start-zero (pieceOf text pattern s))
@@ -253,22 +253,21 @@ module _ (text pattern : List ℕ) (s : Shape) where
 
   -- ---- the window at row top of a strip
 
-  module _ (left top : ℕ) (beside : left < across s) where
-    pub strip-window : stripWindow s left top ≡ windowPlace (s .columns) (s .height) (s .width) (top * across s + left)
+  module _ (left top : ℕ) (beside : left < across s) (v : WindowPlace) (here : v ≡ stripWindow s left top) where
+    pub strip-window : v ≡ windowPlace (s .columns) (s .height) (s .width) (top * across s + left)
     strip-window =
-        ap₂ (λ (r c : ℕ). record { columns = s .columns; row = r; column = c; height = s .height; width = s .width })
+        here
+        ∙ ap₂ (λ (r c : ℕ). record { columns = s .columns; row = r; column = c; height = s .height; width = s .width })
         (sym (corner-row (across s) top left beside)) (sym (corner-column (across s) top left beside))
 
-    pub strip-piece : bytesAll (entryAt text pattern (stripWindow s left top))
-        ≡ pieceOf text pattern s (top * across s + left)
+    pub strip-piece : bytesAll (entryAt text pattern v) ≡ pieceOf text pattern s (top * across s + left)
     unfolding pieceOf entryOfWindow
-    strip-piece = ap (λ (v : WindowPlace). bytesAll (entryAt text pattern v)) strip-window
+    strip-piece = ap (λ (u : WindowPlace). bytesAll (entryAt text pattern u)) strip-window
 
     pub strip-ended : (end earlier : ℕ) → end ≡ endOf text s pattern (top * across s + left)
         → earlier ≡ earlierOf text s pattern (top * across s + left)
-        → EndIs (patternAt pattern) (windowOf text (stripWindow s left top)) (cellCount (stripWindow s left top)) end
-        earlier
+        → EndIs (patternAt pattern) (windowOf text v) (cellCount v) end earlier
     unfolding endOf earlierOf
     strip-ended end earlier a b =
-        subst (λ (v : WindowPlace). EndIs (patternAt pattern) (windowOf text v) (cellCount v) end earlier)
+        subst (λ (u : WindowPlace). EndIs (patternAt pattern) (windowOf text u) (cellCount u) end earlier)
         (sym strip-window) (record { end-is = a; earlier-is = b })

@@ -6,11 +6,8 @@ use Prim.Native.Nat.{ℕ, _*_, _≤_, _<_}
 use lib.ListN.{length, getD}
 use Rattle.theory.specs.Join.{joined}
 use Rattle.shapes.specs.Questions.{asked}
-use Rattle.sets.specs.Symbols.{symbolSet}
 use Rattle.shapes.specs.Shapes.{ShapeOf, across, down}
 use Rattle.shapes.specs.declared.shapes.Shape.{Shape}
-use Rattle.sets.specs.declared.symbols.Symbols.{Symbols}
-use Rattle.matching.specs.Places.{PlacesOf}
 use Rattle.matching.specs.Windows.{windowPlace}
 use Rattle.matching.specs.Windows.Laws.{placed-window, small-window}
 use Rattle.shapes.specs.declared.windows.WindowPlace.{WindowPlace}
@@ -18,6 +15,7 @@ use Rattle.listing.specs.Entries.{bytesAll}
 use Rattle.flags.specs.Flags.{windowFlag}
 use Rattle.flags.specs.Flags.Strips.{flagOf}
 use Rattle.writer.specs.Listing.{entryOfWindow}
+use Rattle.writer.specs.Listing.Offsets.{PairTables}
 use Rattle.writer.specs.Listing.Entries.{Answered, Unmatched, flag-unmatched}
 
 -- sides that were not refused, and the flag of every window
@@ -27,18 +25,13 @@ pub record Flagged (text pattern : List ℕ) (s : Shape) (flags : List ℕ) : Ty
   pub flags-room : down s * across s ≤ length flags
   pub flags-are : (k : ℕ) → k < down s * across s → getD flags k 0 ≡ flagOf text pattern s k
 
--- the pattern's symbols, and a place of each
-pub record SymbolPlaces (pattern : List ℕ) (symbols : Symbols) (places : List ℕ) : Type 0 where
-  pub symbols-are : symbols ≡ symbolSet pattern
-  pub places-are : PlacesOf pattern places
-
 -- ---- window k lies in the text, and its flag says its answer
 
-module _ (text pattern : List ℕ) (s : Shape) (flags : List ℕ) (symbols : Symbols) (places : List ℕ)
-    (f : Flagged text pattern s flags) (g : SymbolPlaces pattern symbols places)
+module _ (text pattern : List ℕ) (s : Shape) (flags listed offsets : List ℕ)
+    (f : Flagged text pattern s flags) (g : PairTables pattern (s .columns) (s .width) listed offsets)
     (k : ℕ) (h : k < down s * across s) where
   answered-here :
-      Answered text (windowPlace (s .columns) (s .height) (s .width) k) pattern (getD flags k 0) symbols places
+      Answered text (windowPlace (s .columns) (s .height) (s .width) k) pattern (getD flags k 0) listed offsets
   unfolding windowFlag
   answered-here =
       record {
@@ -46,14 +39,13 @@ module _ (text pattern : List ℕ) (s : Shape) (flags : List ℕ) (symbols : Sym
         small = small-window text s (f .shape) k h;
         size = f .size;
         flag-is = f .flags-are k h;
-        symbols-are = g .symbols-are;
-        places-are = g .places-are;
+        tables = g;
       }
 
   pub answered : (v : WindowPlace) → v ≡ windowPlace (s .columns) (s .height) (s .width) k
-      → Answered text v pattern (getD flags k 0) symbols places
+      → Answered text v pattern (getD flags k 0) listed offsets
   answered v e =
-      subst (λ (u : WindowPlace). Answered text u pattern (getD flags k 0) symbols places) (sym e) answered-here
+      subst (λ (u : WindowPlace). Answered text u pattern (getD flags k 0) listed offsets) (sym e) answered-here
 
 -- and where its flag does not say found, the pattern does not match it
 module _ (text pattern : List ℕ) (s : Shape) (flags : List ℕ) (f : Flagged text pattern s flags) (k : ℕ)

@@ -1,10 +1,10 @@
 -- `pairs::read_pairs` meets its contract. The invariant: the pairs of the first i symbols, with those of the symbols
--- left, give the whole course.
+-- left, give the whole course. It holds at first because of the plain pairs.
 -- Assumes nothing.
 use mathlib.Core.Path.{refl}
 use mathlib.Core.List.{[]}
 use native.Mathlib.Omega.{arith}
-use Prim.Native.Nat.{_-_}
+use Prim.Native.Nat.{_-_, _≤_}
 use lib.ListN.{length}
 use borrow.Author.Needs.{needs}
 use denote.Ref.{now}
@@ -12,34 +12,57 @@ use Rattle.sets.specs.Symbols.{symbolsOf}
 use Rattle.matching.specs.Compare.{patternAt, windowOf, cellCount}
 use Rattle.claims.specs.Claims.{pairsFrom}
 use Rattle.claims.specs.declared.walks.Walk.{Walk}
-use Rattle.claims.specs.Pairs.Rising.{PairsLeft, listed-has, symbols-left-all, symbols-left-none, left-stopped}
+use Rattle.carrying.specs.Inheritance.Laws.{listed-has}
+use Rattle.claims.specs.Pairs.Rising.{PairsLeft, listed-few, symbols-left-none, left-stopped}
 use Rattle.claims.specs.Pairs.Rising.{left-passed, marks-next}
 use Rattle.claims.proofs.pairs.read_pairs.Statement.{statement}
 use Rattle.claims.proofs.pairs.read_pairs.Tie as tie
 
 abbrev Inv-loop : tie.InvT-loop
-Inv-loop text v pattern carried base images given₀ symbols listing at end₀ i₀ given end i =
+Inv-loop text v pattern carried base images given₀ symbols listing at i₀ end₀ given i end =
     PairsLeft (patternAt pattern) (windowOf text v) (cellCount v) listing symbols base
     (pairsFrom (patternAt pattern) (windowOf text v) (cellCount v) listing (symbolsOf pattern) [] at) i end given
 
 abbrev μ-loop : tie.MeasureT-loop
-μ-loop text v pattern carried base images given₀ symbols listing at end₀ i₀ given end i = length symbols - i
+μ-loop text v pattern carried base images given₀ symbols listing at i₀ end₀ given i end = length symbols - i
 
 -- the walk over all pairs
 abbrev whole : tie.Start Inv-loop μ-loop → Walk
 whole o =
     let a = o .args in
-    pairsFrom (patternAt (now (a .pattern))) (windowOf (now (a .text)) (a .v)) (cellCount (a .v)) (now (a .listing)) (symbolsOf (now (a .pattern))) [] (a .at)
+    pairsFrom (patternAt (now (a .pattern))) (windowOf (now (a .text)) (a .v)) (cellCount (a .v)) (now (a .listing))
+    (symbolsOf (now (a .pattern))) [] (a .at)
+
+-- where a round begins, and its entry
+abbrev entry : tie.In-loop Inv-loop μ-loop → tie.Start Inv-loop μ-loop
+entry c = c .before .before .before .before .before .before .before .before .before
+
+few : (o : tie.Start Inv-loop μ-loop) → length (now (o .args .symbols)) ≤ 256
+few o = listed-few (now (o .args .pattern)) _ (o .pre .1)
+
+plain-pairs-requires : tie.Need-plain-pairs-requires Inv-loop μ-loop
+plain-pairs-requires c κs =
+    let o = c .before .before .before .before .before .before in
+    (o .pre .0 .long, o .pre .2 .long, o .pre .0 .small)
+
+mul-end : tie.Need-mul-end Inv-loop μ-loop
+mul-end c = omega (arith, c .plain-pairs .ensures .1)
+
+add-end : tie.Need-add-end Inv-loop μ-loop
+add-end c = omega (arith, c .plain-pairs .ensures .1)
 
 loop-holds : tie.Need-loop-holds Inv-loop μ-loop
-loop-holds c = let o = c .before .before .before .before .before in symbols-left-all _ _ _ _ _ _ _ _ _ (o .pre .1) (o .pre .2)
+loop-holds c =
+    let o = c .before .before .before .before .before .before .before in
+    c .plain-pairs .ensures .0 .each (now (o .args .text)) (o .args .v) (now (o .args .pattern)) (o .pre .0) (o .pre .1)
+    (o .pre .2)
 
 shared-slice-read-a : tie.Need-shared-slice-read-a Inv-loop μ-loop
 shared-slice-read-a c = omega arith
 
 read-pair-requires : tie.Need-read-pair-requires Inv-loop μ-loop
 read-pair-requires c κs =
-    let o = c .before .before .before .before .before .before .before .before .before in
+    let o = entry (c .before .before) in
     let i = c .before .before .before .loop in
     (o .pre .0, listed-has _ _ (i .i) (o .pre .1) (c .before .before .loop-test .taken), i .inv .marked .older .long)
 
@@ -54,12 +77,13 @@ returns c =
     let t = c .before .before .before .before .before in
     let i = t .before .loop in
     let e = c .before .before .read-pair .ensures (i .inv .before) (i .inv .marked) in (
-      left-stopped _ _ _ _ _ _ (whole (t .before .before .before .before .before .before .before)) _ _ _ (i .inv) _ refl (t .loop-test .taken) _ _ e _ (c .enum-told .given .1),
+      left-stopped _ _ _ _ _ _ (whole (entry t)) _ _ _ (i .inv) _ refl (t .loop-test .taken)
+          _ _ e _ (c .enum-told .given .1),
       marks-next _ _ (e .older),
     )
 
 add-i : tie.Need-add-i Inv-loop μ-loop
-add-i c = omega (arith, c .before .before .before .before .before .before .loop-test .taken)
+add-i c = let t = c .before .before .before .before .before .before in omega (arith, t .loop-test .taken, few (entry t))
 
 loop-less : tie.Need-loop-less Inv-loop μ-loop
 loop-less c = omega (arith, c .before .before .before .before .before .before .loop-test .taken)
@@ -69,12 +93,16 @@ loop-again c =
     let t = c .before .before .before .before .before .before in
     let i = t .before .loop in
     let e = c .before .before .before .read-pair .ensures (i .inv .before) (i .inv .marked) in
-    left-passed _ _ _ _ _ _ (whole (t .before .before .before .before .before .before .before)) _ _ _ (i .inv) _ refl (t .loop-test .taken) _ _ e _ (c .before .step .given .1)
+    left-passed _ _ _ _ _ _ (whole (entry t)) _ _ _ (i .inv) _ refl (t .loop-test .taken)
+    _ _ e _ (c .before .step .given .1)
 
 returns-2 : tie.Need-returns-2 Inv-loop μ-loop
 returns-2 c =
     let i = c .before .loop .inv in
-    (symbols-left-none _ _ _ _ _ _ (whole (c .before .before .before .before .before .before .before)) _ _ _ i (omega (arith, c .loop-test .left)), marks-next _ _ (i .marked .older))
+    let o = c .before .before .before .before .before .before .before .before .before in (
+      symbols-left-none _ _ _ _ _ _ (whole o) _ _ _ i (omega (arith, c .loop-test .left)),
+      marks-next _ _ (i .marked .older),
+    )
 
 pub read-pairs-spec : {M : Type 1} → statement M
 read-pairs-spec =
@@ -82,6 +110,9 @@ read-pairs-spec =
     (tie.spec
     Inv-loop
     μ-loop
+    plain-pairs-requires
+    mul-end
+    add-end
     loop-holds
     shared-slice-read-a
     read-pair-requires

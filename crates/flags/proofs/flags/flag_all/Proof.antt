@@ -4,27 +4,25 @@
 -- Assumes nothing.
 use native.Mathlib.Omega.{arith}
 use denote.Ref.{now}
-use Rattle.theory.specs.Older.Laws.{zeros-long}
 use Rattle.shapes.specs.Said.Laws.{same-buffer}
-use Rattle.sweep.specs.Sweep.Runs.{sides-of}
-use Rattle.flags.specs.Flags.Laws.{pattern-small, strip-small}
+use Rattle.flags.specs.Flags.Laws.{strip-small}
 use Rattle.flags.specs.Flags.Steps.{counts-there, counts-long, counts-over, flags-over, links-over, marks-over}
 use borrow.Author.Needs.{needs}
 use Rattle.flags.proofs.flags.flag_all.Statement.{statement}
 use Rattle.flags.proofs.flags.flag_all.Tie as tie
+use Rattle.grid.proofs.counts.distinct_counts.Reads as distinct-counts-reads
+use Rattle.reach.proofs.places.no_positions.Reads as no-positions-reads
+use Rattle.sieve.proofs.pairs.no_offsets.Reads as no-offsets-reads
 
 -- the places that the needs look back to: the entry, the counts, and the call that flags
 abbrev entry : tie.After-distinct-counts → tie.Start
-entry c = c .before .before .before .before .before .before .before .before
+entry c = c .before .before .before .before .before .before .before
 
 abbrev asked : tie.After-flag-windows-arg3 → tie.After-distinct-counts
-asked c = c .before .before .before .before .before .before .before .before .before .before .before .before
+asked c = c .before .before .before .before .before .before .before .before .before .before .before .before .before .before .before
 
 abbrev flagged : tie.After-struct-known → tie.After-flag-windows
 flagged c = c .before .before .before .before .before .before
-
-pattern-size-requires : tie.Need-pattern-size-requires
-pattern-size-requires c κs = pattern-small _ _ _ _ _ _ (c .before .before .before .before .before .pre)
 
 distinct-counts-requires : tie.Need-distinct-counts-requires
 distinct-counts-requires c κs = search needs
@@ -32,25 +30,22 @@ distinct-counts-requires c κs = search needs
 no-positions-requires : tie.Need-no-positions-requires
 no-positions-requires c κs = search needs
 
-no-positions-requires-2 : tie.Need-no-positions-requires-2
-no-positions-requires-2 c κs = search needs
+no-offsets-requires : tie.Need-no-offsets-requires
+no-offsets-requires c κs = search needs
 
-own-places-requires : tie.Need-own-places-requires
-own-places-requires c κs =
-    let o = c .before .before .before .before .before .before .before .before .before .before .before .before .before
-    .before in (
-      sides-of (now (o .args .text)) (o .args .s) _ (o .pre .shape) (o .pre .size),
-      zeros-long _
-          (c .before .before .before .no-positions .ensures),
-      zeros-long _ (c .before .before .no-positions2 .ensures),
-    )
+no-offsets-requires-2 : tie.Need-no-offsets-requires-2
+no-offsets-requires-2 c κs = search needs
+
+pattern-tables-requires : tie.Need-pattern-tables-requires
+pattern-tables-requires c κs = search needs
 
 flag-windows-requires : tie.Need-flag-windows-requires
 flag-windows-requires c κs =
     let k = asked c in
     let a = entry k .args in
-    let r = entry k .pre in
-    let e = same-buffer (k .distinct-counts .ensures) in (
+    let r = entry k .pre .0 in
+    let e = same-buffer (k .distinct-counts .ensures) in
+    let t = c .before .before .before .before .before .before .pattern-tables .ensures in (
       record {
         room = record {
           shape = r .shape;
@@ -65,27 +60,33 @@ flag-windows-requires c κs =
               );
           flags-room = r .flags-room;
         };
-        symbols-is = k .before .before .pattern-size .ensures;
+        symbols-is = entry k .pre .1;
         counts-are = counts-there (now (a .text)) (a .s) (now (a .counts)) _ (r .shape) (r .counts-room) e;
       },
-      c .before .before .before .before .before .own-places .ensures,
+      t .0,
+      t .1,
     )
 
 mul-clear : tie.Need-mul-clear
 mul-clear c =
     let o = entry (asked (flagged c .before)) in
-    omega (arith, strip-small (o .args .s) _ (o .pre .shape))
+    omega (arith, strip-small (o .args .s) _ (o .pre .0 .shape))
 
 clear-requires : tie.Need-clear-requires
 clear-requires c κs =
     let f = flagged c in
-    omega (arith, entry (asked (f .before)) .pre .links-room, f .flag-windows .ensures .1 .long)
+    omega (arith, entry (asked (f .before)) .pre .0 .links-room, f .flag-windows .ensures .1 .long)
 
 same-length : tie.Need-same-length
 same-length c = search needs
 
 same-length-2 : tie.Need-same-length-2
-same-length-2 c = search needs
+same-length-2 c =
+    let k = asked (flagged (c .before .before .before) .before) in
+    let a = entry k .args in
+    let r = entry k .pre .0 in
+    counts-long (now (a .text)) (a .s) (now (a .counts)) _ (r .shape) (r .counts-room)
+    (same-buffer (k .distinct-counts .ensures))
 
 same-length-3 : tie.Need-same-length-3
 same-length-3 c = search needs
@@ -95,7 +96,7 @@ returns c =
     let w = flagged (c .before .before .before) in
     let k = asked (w .before) in
     let a = entry k .args in
-    let r = entry k .pre in
+    let r = entry k .pre .0 in
     marks-over (now (a .text)) (now (a .pattern)) (a .s) _ _
     (links-over _ (now (a .links)) _ _ (r .links-room) (w .flag-windows .ensures .1)
     (c .before .before .clear .ensures))
@@ -108,11 +109,11 @@ pub flag-all-spec : {M : Type 1} → statement M
 flag-all-spec =
     tie.close
     (tie.spec
-    pattern-size-requires
     distinct-counts-requires
     no-positions-requires
-    no-positions-requires-2
-    own-places-requires
+    no-offsets-requires
+    no-offsets-requires-2
+    pattern-tables-requires
     flag-windows-requires
     mul-clear
     clear-requires

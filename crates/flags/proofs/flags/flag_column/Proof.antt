@@ -1,11 +1,12 @@
 -- `flags::flag_column` meets its contract: where no window may match none does (`strip-none`); else the counts and the
 -- links are the text's, so what is written is the flag of each window.
 -- Assumes nothing.
+use mathlib.Core.Path.{refl}
 use denote.Ref.{now}
 use borrow.Author.Tests.{not-true}
 use Rattle.shapes.specs.Said.Laws.{same-buffer}
 use Rattle.flags.specs.Flags.Links.{kept-same, strip-links-written, strip-links-kept}
-use Rattle.flags.specs.Flags.Rows.{strip-none}
+use Rattle.flags.specs.Flags.Unwanted.{strip-none}
 use borrow.Author.Needs.{needs}
 use Rattle.flags.proofs.flags.flag_column.Statement.{statement}
 use Rattle.flags.proofs.flags.flag_column.Tie as tie
@@ -36,7 +37,19 @@ strip-links-requires : tie.Need-strip-links-requires
 strip-links-requires c κs = search needs
 
 flag-strip-requires : tie.Need-flag-strip-requires
-flag-strip-requires c κs = search needs
+flag-strip-requires c κs =
+    let o = c .before .before .before .before .before .before .before .before .before .before .before .before .before in
+    let r = o .pre .0 .room in (
+      record {
+        shape = record { sized = r .shape .sized; cells-is = refl };
+        size = r .size;
+        links-room = search needs;
+        counts-room = r .counts-room;
+        flags-room = search needs;
+      },
+      o .pre .1,
+      o .pre .2,
+    )
 
 same-length-2 : tie.Need-same-length-2
 same-length-2 c = search needs

@@ -16,12 +16,12 @@ use Rattle.flags.proofs.flags.flag_windows.Statement.{statement}
 use Rattle.flags.proofs.flags.flag_windows.Tie as tie
 
 abbrev Inv-loop : tie.InvT-loop
-Inv-loop text pattern first selves symbols s counts links₀ flags₀ wide left₀ links flags left =
+Inv-loop text pattern first selves earlier later symbols s counts links₀ flags₀ wide left₀ links flags left =
     (left ≤ wide) × (flags ≡ storedRows (flagOf text pattern s) (λ left top. top * across s + left) left (down s)
     flags₀) × RestKept (s .rows * s .width) links₀ links
 
 abbrev μ-loop : tie.MeasureT-loop
-μ-loop text pattern first selves symbols s counts links₀ flags₀ wide left₀ links flags left = wide - left
+μ-loop text pattern first selves earlier later symbols s counts links₀ flags₀ wide left₀ links flags left = wide - left
 
 length-flags : (c : tie.At-loop Inv-loop μ-loop)
     → length (c .loop .flags) ≡ length (now
@@ -46,10 +46,10 @@ flag-column-requires : tie.Need-flag-column-requires Inv-loop μ-loop
 flag-column-requires c κs =
     let l = c .before .before .before in
     let o = c .before .before .before .before .before .before .before .before .before .before .before in
-    (ready-still (o .pre .0) (l .loop .inv .2 .long) (length-flags l), c .before .before .loop-test .taken, o .pre .1)
+    (ready-still (o .pre .0) (l .loop .inv .2 .long) (length-flags l), c .before .before .loop-test .taken, o .pre .1, o .pre .2)
 
 add-left : tie.Need-add-left Inv-loop μ-loop
-add-left c = omega arith
+add-left c = omega (arith, c .before .before .before .before .before .before .before .loop-test .taken, c .before .before .before .before .before .before .before .before .before .before .before .before .before .before .before .before .pre .0 .room .shape)
 
 loop-less : tie.Need-loop-less Inv-loop μ-loop
 loop-less c = omega arith

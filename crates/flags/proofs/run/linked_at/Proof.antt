@@ -1,6 +1,8 @@
 -- `run::linked_at` meets its contract: each way out is one arm of the step's test.
 -- Assumes nothing.
-use mathlib.Core.Path.{sym, _∙_}
+use mathlib.Core.Path.{sym, _∙_, ap}
+use Prim.Native.Nat.{ℕ}
+use lib.Dec.{eqb}
 use borrow.Author.Tests.{lt-ltb, le-ltb}
 use Rattle.theory.specs.Test.Laws.{pick-true, pick-false}
 use Rattle.flags.specs.Flags.Run.{linkedAt}
@@ -18,13 +20,14 @@ returns : tie.Need-returns
 unfolding linkedAt
 returns c = sym (pick-true _ _ (lt-ltb _ _ (c .before .if1 .taken)))
 
-shared-slice-read-result : tie.Need-shared-slice-read-result
-shared-slice-read-result c = search needs
+pattern-at-requires : tie.Need-pattern-at-requires
+pattern-at-requires c κs = search needs
 
 returns-2 : tie.Need-returns-2
 unfolding linkedAt
 returns-2 c =
-    sym (pick-false _ _ (le-ltb _ _ (c .before .before .if1 .left))
+    ap (λ (x : ℕ). eqb x (c .before .before .before .before .args .a)) (c .pattern-at .ensures)
+    ∙ sym (pick-false _ _ (le-ltb _ _ (c .before .before .if1 .left))
     ∙ pick-true _ _ (lt-ltb _ _ (c .before .if2 .taken)))
 
 mul-result-2 : tie.Need-mul-result-2
@@ -46,7 +49,7 @@ linked-at-spec =
     mul-result
     element-copy-out-result
     returns
-    shared-slice-read-result
+    pattern-at-requires
     returns-2
     mul-result-2
     element-copy-out-result-2

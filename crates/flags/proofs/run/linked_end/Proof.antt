@@ -20,8 +20,8 @@ abbrev μ-loop : tie.MeasureT-loop
 loop-holds : tie.Need-loop-holds Inv-loop μ-loop
 loop-holds c = compared-none _ _ _ _ _ (c .before .before .pre)
 
-shared-slice-read-a : tie.Need-shared-slice-read-a Inv-loop μ-loop
-shared-slice-read-a c = omega (arith, c .before .loop-test .taken)
+pattern-at-requires : tie.Need-pattern-at-requires Inv-loop μ-loop
+pattern-at-requires c κs = c .loop-test .taken
 
 add-linked-at : tie.Need-add-linked-at Inv-loop μ-loop
 add-linked-at c = omega (arith, c .before .loop-test .taken, c .before .before .before .before .before .pre .small)
@@ -37,7 +37,7 @@ cast-linked-at : tie.Need-cast-linked-at Inv-loop μ-loop
 cast-linked-at c =
     omega (
       arith,
-      c .shared-slice-known4 .given
+      c .shared-slice-known3 .given
           (c .before .before .before .before .before .before .args .start + c .before .before .before .loop .p),
     )
 
@@ -49,7 +49,7 @@ returns : tie.Need-returns Inv-loop μ-loop
 returns c =
     let l = c .before .before .before .before .before .loop in
     compared-found _ _ _ _ _ (c .before .before .before .before .before .before .before .before .pre) (l .p)
-    (c .before .before .before .before .loop-test .taken) (l .inv) _ _ refl refl _ (c .before .linked-at .ensures)
+    (c .before .before .before .before .loop-test .taken) (l .inv) _ _ refl (c .before .before .before .pattern-at .ensures) _ (c .before .linked-at .ensures)
     (not-true _ (c .if1 .taken))
 
 add-p : tie.Need-add-p Inv-loop μ-loop
@@ -68,7 +68,7 @@ loop-again : tie.Need-loop-again Inv-loop μ-loop
 loop-again c =
     let l = c .before .before .before .before .before .loop in
     compared-more _ _ _ _ _ (c .before .before .before .before .before .before .before .before .pre) (l .p)
-    (c .before .before .before .before .loop-test .taken) (l .inv) _ _ refl refl _ (c .before .linked-at .ensures)
+    (c .before .before .before .before .loop-test .taken) (l .inv) _ _ refl (c .before .before .before .pattern-at .ensures) _ (c .before .linked-at .ensures)
     (not-false _ (c .if1 .left))
 
 returns-2 : tie.Need-returns-2 Inv-loop μ-loop
@@ -81,7 +81,7 @@ linked-end-spec =
     Inv-loop
     μ-loop
     loop-holds
-    shared-slice-read-a
+    pattern-at-requires
     add-linked-at
     mul-linked-at
     shared-slice-read-linked-at

@@ -170,7 +170,7 @@ module _ (pattern first selves links : List ℕ) (width row reached top : ℕ)
   module _ (under : top * width < reached) (own : ℕ) (eo : own ≡ getD selves (top - row) 0) where
     own-is : own ≡ firstEnd (λ p. getD pattern p 0) (suffix (λ p. getD pattern p 0) ((top - row) * width))
         (length pattern - (top - row) * width)
-    own-is = eo ∙ asked .owns .each (top - row) (omega (arith, rows-apart, asked .fits))
+    own-is = eo ∙ asked .owns .each (top - row) (omega arith) (omega (arith, rows-apart, asked .fits))
 
     fits : reached ≤ row * width + (top - row) * width + (length pattern - (top - row) * width)
     fits = omega (arith, rows-apart, asked .fits)

@@ -1,26 +1,29 @@
 -- `rows::agrees_at` meets its contract: each way out is one arm of the step's test.
 -- Assumes nothing.
-use mathlib.Core.Path.{sym}
-use native.Mathlib.Omega.{arith}
-use borrow.Author.Needs.{needs}
+use mathlib.Core.Path.{sym, _∙_, ap}
+use Prim.Native.Nat.{ℕ}
 use borrow.Author.Tests.{lt-ltb, le-ltb}
+use lib.Dec.{eqb}
 use Rattle.theory.specs.Test.Laws.{pick-true, pick-false}
 use Rattle.prefixes.specs.State.{agreesAt}
+use borrow.Author.Needs.{needs}
 use Rattle.reach.proofs.rows.agrees_at.Statement.{statement}
 use Rattle.reach.proofs.rows.agrees_at.Tie as tie
 
-sub-result : tie.Need-sub-result
-sub-result c = search needs
+sub-pattern-at : tie.Need-sub-pattern-at
+sub-pattern-at c = search needs
 
-sub-result-2 : tie.Need-sub-result-2
-sub-result-2 c = omega arith
+sub-pattern-at-2 : tie.Need-sub-pattern-at-2
+sub-pattern-at-2 c = search needs
 
-shared-slice-read-result : tie.Need-shared-slice-read-result
-shared-slice-read-result c = search needs
+pattern-at-requires : tie.Need-pattern-at-requires
+pattern-at-requires c κs = search needs
 
 returns : tie.Need-returns
 unfolding agreesAt
-returns c = sym (pick-true _ _ (lt-ltb _ _ (c .before .if1 .taken)))
+returns c =
+    ap (λ (x : ℕ). eqb x (c .before .before .before .args .a)) (c .pattern-at .ensures)
+    ∙ sym (pick-true _ _ (lt-ltb _ _ (c .before .if1 .taken)))
 
 mul-result : tie.Need-mul-result
 mul-result c = search needs
@@ -36,9 +39,9 @@ pub agrees-at-spec : {M : Type 1} → statement M
 agrees-at-spec =
     tie.close
     (tie.spec
-    sub-result
-    sub-result-2
-    shared-slice-read-result
+    sub-pattern-at
+    sub-pattern-at-2
+    pattern-at-requires
     returns
     mul-result
     element-copy-out-result

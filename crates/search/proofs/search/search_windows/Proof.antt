@@ -1,5 +1,6 @@
--- `search::search_windows` meets its contract: the flags are those of all windows, so their totals and the length are
--- right (`totals`), and the listing is written just where there is room for it (`listing-fits`).
+-- `search::search_windows` meets its contract: the flags are those of all windows, and the number of symbols is the
+-- pattern's, so the totals and the length are right (`totals`), and the listing is written just where there is room for
+-- it (`listing-fits`).
 -- Assumes nothing.
 use native.Mathlib.Omega.{arith}
 use denote.Ref.{now}
@@ -15,7 +16,9 @@ use Rattle.search.proofs.search.search_windows.Tie as tie
 
 -- where the call begins
 abbrev entry : tie.After-totals-of-arg → tie.Start
-entry c = c .before .before .before .before .before .before .before .before .before .before .before .before .before .before .before .before .before .before .before .before .before
+entry c =
+    let o = c .before .before .before .before .before .before .before .before .before .before .before .before .before .before .before in
+    o .before .before .before .before .before .before .before .before .before .before .before
 
 -- the totals are those of the windows
 totals : (c : tie.After-totals-of) → let a = entry (c .before) .args in
@@ -41,6 +44,16 @@ sub-n-2 c = search needs
 mul-n : tie.Need-mul-n
 mul-n c = search needs
 
+pattern-size-requires : tie.Need-pattern-size-requires
+pattern-size-requires c κs =
+    pattern-small _ _ _ _ _ _ (c .before .before .before .before .before .before .before .before .before .before .pre)
+
+no-positions-requires : tie.Need-no-positions-requires
+no-positions-requires c κs = search needs
+
+first-places-requires : tie.Need-first-places-requires
+first-places-requires c κs = search needs
+
 flag-all-requires : tie.Need-flag-all-requires
 flag-all-requires c κs = search needs
 
@@ -48,7 +61,7 @@ totals-of-requires : tie.Need-totals-of-requires
 totals-of-requires c κs =
     let o = entry c in
     let a = o .args in (
-      pattern-small _ _ _ _ _ _ (o .pre),
+      c .before .before .before .before .before .before .before .before .before .before .before .before .before .before .before .pattern-size .ensures,
       omega (arith, windows-small (a .s) _ (o .pre .shape)),
       omega (arith, o .pre .flags-room, flags-long (now (a .text)) (now (a .pattern)) (a .s) _ _ (now (a .flags)) _ (o .pre) (marked-flags _ _ _ (c .before .before .before .before .before .before .before .flag-all .ensures))),
     )
@@ -72,13 +85,16 @@ returns c =
 
 write-listing-requires : tie.Need-write-listing-requires
 write-listing-requires c κs =
-    let o = entry (c .before .before .before .before) in
+    let o = entry (c .before .before .before .before .before) in
     let a = o .args in
-    let t = totals (c .before .before .before) in (
-      flagged (now (a .text)) (now (a .pattern)) (a .s) _ _ (now (a .flags)) _ (o .pre) (marked-flags _ _ _ (c .before .before .before .before .before .before .before .before .before .before .before .flag-all .ensures)),
+    let t = totals (c .before .before .before .before) in (
+      flagged (now (a .text)) (now (a .pattern)) (a .s) _ _ (now (a .flags)) _ (o .pre)
+          (marked-flags _ _ _ (c .before .before .before .before .before .before .before .before .before .before .before .before .flag-all .ensures)),
       t .found-is,
       t .refused-is,
-      listing-fits (now (a .text)) (now (a .pattern)) (a .s) _ _ _ _ t (λ k. omega (arith, c .before .before .before .before .before .before .before .before .before .before .before .before .before .before .before .before .before .before .before .before .before .before .before .shared-slice-known2 .given k)) (c .before .before .if1 .left),
+      listing-fits (now (a .text)) (now (a .pattern)) (a .s) _ _ _ _ t
+          (λ k. omega (arith, c .before .before .before .before .before .before .before .before .before .before .before .before .before .before .before .before .before .before .before .before .before .before .before .before .before .before .before .before .before .shared-slice-known2 .given k)) (c .before .before .before .if1 .left),
+      c .before .before .before .before .before .before .before .before .before .before .before .before .before .before .before .before .before .first-places .ensures,
     )
 
 same-length-4 : tie.Need-same-length-4
@@ -95,12 +111,13 @@ same-length-7 c = search needs
 
 returns-2 : tie.Need-returns-2
 returns-2 c =
-    let o = entry (c .before .before .before .before .before .before .before) in
+    let o = entry (c .before .before .before .before .before .before .before .before) in
     let a = o .args in
-    let t = totals (c .before .before .before .before .before .before) in
-    let e = c .before .before .before .before .before .before .before .before .before .before .before .before .before .before .flag-all .ensures in
-    says-listed (asked (now (a .text)) (now (a .pattern)) (a .s)) (lend (now (a .links)) (now (a .counts)) (now (a .flags)) (now (a .listing))) _ e _ _ _ _
-    (t .found-is) (t .refused-is) (t .size-is) (c .before .before .before .before .before .if1 .left) (c .before .before .write-listing .ensures)
+    let t = totals (c .before .before .before .before .before .before .before) in
+    let e = c .before .before .before .before .before .before .before .before .before .before .before .before .before .before .before .flag-all .ensures in
+    says-listed (asked (now (a .text)) (now (a .pattern)) (a .s))
+    (lend (now (a .links)) (now (a .counts)) (now (a .flags)) (now (a .listing))) _ e _ _ _ _ (t .found-is)
+    (t .refused-is) (t .size-is) (c .before .before .before .before .before .before .if1 .left) (c .before .before .write-listing .ensures)
 
 pub search-windows-spec : {M : Type 1} → statement M
 search-windows-spec =
@@ -111,6 +128,9 @@ search-windows-spec =
     add-n-2
     sub-n-2
     mul-n
+    pattern-size-requires
+    no-positions-requires
+    first-places-requires
     flag-all-requires
     totals-of-requires
     same-length

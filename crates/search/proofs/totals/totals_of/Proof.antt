@@ -13,18 +13,17 @@ use Rattle.search.proofs.totals.totals_of.Statement.{statement}
 use Rattle.search.proofs.totals.totals_of.Tie as tie
 
 -- the bytes of the windows found are few
-bytes-few : (c : tie.After-count-found) → c .count-found .result * (3 + 3 * c .before .pattern-size .result) ≤ 65535 * (3 + 3 * 65535)
-bytes-few c = product-le (c .count-found .result) (3 + 3 * c .before .pattern-size .result) 65535 (3 + 3 * 65535) (omega arith) (omega arith)
+bytes-few : (c : tie.After-count-found) → let a = c .before .before .before .args in
+    c .count-found .result * (3 + 3 * a .symbols) ≤ 65535 * (3 + 3 * 65535)
+bytes-few c =
+    let a = c .before .before .before .args in
+    product-le (c .count-found .result) (3 + 3 * a .symbols) 65535 (3 + 3 * 65535) (omega arith) (omega arith)
 
 -- not more windows are found than there are
-found-le : (c : tie.After-count-found) → c .count-found .result ≤ c .before .before .before .before .args .n
-found-le c = let a = c .before .before .before .before .args in omega (arith, c .count-found .ensures, ones-le (now (a .flags)) (a .n))
-
-pattern-size-requires : tie.Need-pattern-size-requires
-pattern-size-requires c κs = search needs
-
-cast-d : tie.Need-cast-d
-cast-d c = search needs
+found-le : (c : tie.After-count-found) → c .count-found .result ≤ c .before .before .before .args .n
+found-le c =
+    let a = c .before .before .before .args in
+    omega (arith, c .count-found .ensures, ones-le (now (a .flags)) (a .n))
 
 count-found-requires : tie.Need-count-found-requires
 count-found-requires c κs = search needs
@@ -61,11 +60,12 @@ add-length-3 c = omega (arith, bytes-few c)
 
 returns : tie.Need-returns
 returns c =
-    let a = c .before .before .before .before .args in (
+    let a = c .before .before .before .args in (
       c .count-found .ensures,
       (
         others-left (now (a .flags)) (a .n) _ (c .count-found .ensures),
-        ap (λ (d : ℕ). listingLength (c .count-found .result) (a .n - c .count-found .result) d) (c .before .pattern-size .ensures),
+        ap (λ (d : ℕ). listingLength (c .count-found .result) (a .n - c .count-found .result) d)
+            (c .before .before .before .pre .0),
       ),
     )
 
@@ -73,8 +73,6 @@ pub totals-of-spec : {M : Type 1} → statement M
 totals-of-spec =
     tie.close
     (tie.spec
-    pattern-size-requires
-    cast-d
     count-found-requires
     cast-refused
     sub-refused

@@ -1,59 +1,43 @@
--- `sets::symbols::symbols_of` meets its contract. The loop's invariant: i is at most the pattern's length, and s is the
--- set of the first i symbols. One turn adds the symbol at i. The measure is what is left of the pattern.
+-- `symbols::symbols_of` meets its contract: the marks are the pattern's, so their four words of 64 are the set of its
+-- symbols (`marked-set`).
 -- Assumes nothing.
-use mathlib.Core.Path.{_≡_, _∙_}
-use Prim.Native.Nat.{_≤_, _-_, zero-le}
 use native.Mathlib.Omega.{arith}
-use lib.ListN.{length, take}
-use Rattle.sets.specs.Symbols.{symbolSet}
-use Rattle.sets.specs.Symbols.Patterns.{symbols-none, symbols-next, symbols-all}
+use denote.Ref.{now}
+use Rattle.sets.specs.Symbols.Marking.{marks-bits, marked-set}
 use Rattle.sets.proofs.symbols.symbols_of.Statement.{statement}
 use Rattle.sets.proofs.symbols.symbols_of.Tie as tie
 
-abbrev Inv-loop : tie.InvT-loop
-Inv-loop pattern s₀ i₀ s i = (i ≤ length pattern) × (s ≡ symbolSet (take i pattern))
+marks-of-requires : tie.Need-marks-of-requires
+marks-of-requires c κs = tt
 
-abbrev μ-loop : tie.MeasureT-loop
-μ-loop pattern s₀ i₀ s i = length pattern - i
+mark-word-requires : tie.Need-mark-word-requires
+mark-word-requires c κs = (marks-bits _ _ (c .before .marks-of .ensures), omega arith)
 
-empty-requires : tie.Need-empty-requires Inv-loop μ-loop
-empty-requires c κs = tt
+mark-word-requires-2 : tie.Need-mark-word-requires-2
+mark-word-requires-2 c κs = (marks-bits _ _ (c .before .before .before .marks-of .ensures), omega arith)
 
-loop-holds : tie.Need-loop-holds Inv-loop μ-loop
-loop-holds c = (zero-le, c .empty .ensures ∙ symbols-none)
+mark-word-requires-3 : tie.Need-mark-word-requires-3
+mark-word-requires-3 c κs = (marks-bits _ _ (c .before .before .before .before .before .marks-of .ensures), omega arith)
 
-shared-slice-read-with : tie.Need-shared-slice-read-with Inv-loop μ-loop
-shared-slice-read-with c = omega arith
+mark-word-requires-4 : tie.Need-mark-word-requires-4
+mark-word-requires-4 c κs =
+    (marks-bits _ _ (c .before .before .before .before .before .before .before .marks-of .ensures), omega arith)
 
-with-requires : tie.Need-with-requires Inv-loop μ-loop
-with-requires c κs = tt
-
-add-i : tie.Need-add-i Inv-loop μ-loop
-add-i c = omega arith
-
-loop-less : tie.Need-loop-less Inv-loop μ-loop
-loop-less c = omega arith
-
-loop-again : tie.Need-loop-again Inv-loop μ-loop
-loop-again c =
-    let l = c .before .before .before in
-    let xs = l .before .before .before .args .pattern .now in
-    (omega arith, c .with .ensures ∙ symbols-next xs (l .loop .i) (l .loop .s) (c .before .before .loop-test .taken) (l .loop .inv .1))
-
-returns : tie.Need-returns Inv-loop μ-loop
-returns c = c .before .loop .inv .1 ∙ symbols-all (c .before .before .before .before .args .pattern .now) (c .before .loop .i) (c .loop-test .left)
+returns : tie.Need-returns
+returns c =
+    let third = c .before .before in
+    let second = third .before .before in
+    let first = second .before .before in
+    marked-set _ _ (first .before .before .marks-of .ensures) _ _ _ _
+    (first .mark-word .ensures) (second .mark-word2 .ensures) (third .mark-word3 .ensures) (c .mark-word4 .ensures)
 
 pub symbols-of-spec : {M : Type 1} → statement M
 symbols-of-spec =
     tie.close
     (tie.spec
-    Inv-loop
-    μ-loop
-    empty-requires
-    loop-holds
-    shared-slice-read-with
-    with-requires
-    add-i
-    loop-less
-    loop-again
+    marks-of-requires
+    mark-word-requires
+    mark-word-requires-2
+    mark-word-requires-3
+    mark-word-requires-4
     returns)

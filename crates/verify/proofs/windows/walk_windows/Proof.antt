@@ -14,7 +14,7 @@ use Rattle.grid.specs.Counts.Laws.{windows-small}
 use Rattle.matching.specs.Windows.{windowPlace}
 use Rattle.matching.specs.Windows.Laws.{window-first, window-next, step-asks}
 use Rattle.shapes.specs.Questions.{ask, asked}
-use Rattle.claims.specs.Inheritance.{Above}
+use Rattle.carrying.specs.Inheritance.{Above}
 use Rattle.claims.specs.declared.walks.Walk.the-variants.{Goes, Stops}
 use Rattle.verify.specs.Check.{entryFrom, windowsTo, foundTo}
 use Rattle.verify.specs.Entries.{goes-inside}
@@ -25,14 +25,14 @@ use Rattle.verify.proofs.windows.walk_windows.Tie as tie
 
 -- the loop doesn't read how many rows the text has: what it keeps holds for every number of them
 abbrev Inv-loop : tie.InvT-loop
-Inv-loop text pattern symbols images₀ given₀ first₀ selves₀ tops₀ listing across n v₀ base₀ at₀ found₀ k₀ images given first selves tops v base at found k =
+Inv-loop text pattern symbols images₀ given₀ offsets₀ selves₀ tops₀ listing across n v₀ base₀ at₀ found₀ k₀ images given offsets selves tops v base at found k =
     (k ≤ n) × (v ≡ windowPlace (v₀ .columns) (v₀ .height) (v₀ .width) k) × (base ≡ 256 + k * 256) × (length images ≡ 256) × Older base given
     × ((rows : ℕ) → windowsTo (ask text rows (v₀ .columns) pattern (v₀ .height) (v₀ .width)) listing k ≡ Goes at)
     × ((rows : ℕ) → found ≡ foundTo (ask text rows (v₀ .columns) pattern (v₀ .height) (v₀ .width)) listing k)
-    × Above text pattern (v₀ .columns) (v₀ .height) (v₀ .width) first selves tops
+    × Above text pattern (v₀ .columns) (v₀ .height) (v₀ .width) offsets selves tops
 
 abbrev μ-loop : tie.MeasureT-loop
-μ-loop text pattern symbols images₀ given₀ first₀ selves₀ tops₀ listing across n v₀ base₀ at₀ found₀ k₀ images given first selves tops v base at found k = n - k
+μ-loop text pattern symbols images₀ given₀ offsets₀ selves₀ tops₀ listing across n v₀ base₀ at₀ found₀ k₀ images given offsets selves tops v base at found k = n - k
 
 add-across : tie.Need-add-across Inv-loop μ-loop
 add-across c = omega arith

@@ -5,6 +5,7 @@ use mathlib.Core.Path.{_≡_, refl, ap, _∙_, subst}
 use native.Mathlib.Omega.{arith}
 use Prim.Native.Nat.{ℕ, _+_, _-_, _*_, _≤_, _<_}
 use lib.ListN.{length}
+use borrow.Author.Needs.{needs}
 use denote.Ref.{now}
 use Rattle.shapes.specs.Shapes.{across, down}
 use Rattle.grid.specs.Counts.Laws.{place-lt, windows-small}
@@ -16,13 +17,13 @@ use Rattle.writer.proofs.found.write_row.Statement.{statement}
 use Rattle.writer.proofs.found.write_row.Tie as tie
 
 abbrev Inv-loop : tie.InvT-loop
-Inv-loop text pattern s top symbols places flags listing₀ start wide first at₀ left₀ listing at left =
+Inv-loop text pattern s top listed offsets flags listing₀ start wide first at₀ left₀ listing at left =
     (left ≤ wide) × (at ≡ startOf (pieceOf text pattern s) (top * across s + left)) ×
     Puts (pieceOf text pattern s) (down s * across s) (FoundIn flags (top * across s) (top * across s + left)) listing₀
     listing
 
 abbrev μ-loop : tie.MeasureT-loop
-μ-loop text pattern s top symbols places flags listing₀ start wide first at₀ left₀ listing at left = wide - left
+μ-loop text pattern s top listed offsets flags listing₀ start wide first at₀ left₀ listing at left = wide - left
 
 abbrev entry : tie.In-loop Inv-loop μ-loop → tie.Start Inv-loop μ-loop
 entry c = c .before .before .before .before .before .before .before .before .before
@@ -70,19 +71,24 @@ add-flag c = omega (arith, place-small c)
 shared-slice-read-flag : tie.Need-shared-slice-read-flag Inv-loop μ-loop
 shared-slice-read-flag c = let i = c .before in omega (arith, place-in i, entry i .pre .0 .flags-room)
 
-pass-window-requires : tie.Need-pass-window-requires Inv-loop μ-loop
-pass-window-requires c κs = let i = c .before .before in
+strip-window-requires : tie.Need-strip-window-requires Inv-loop μ-loop
+strip-window-requires c κs = search needs
+
+write-if-found-requires : tie.Need-write-if-found-requires Inv-loop μ-loop
+write-if-found-requires c κs = let i = c .before .before .before in
     let o = entry i in
     let a = o .args in
     let l = i .before .loop in
-    let b : l .left < across (a .s) = i .loop-test .taken in (
-      answered (now (a .text)) (now (a .pattern)) (a .s) (now (a .flags)) (a .symbols) (now (a .places)) (o .pre .0)
+    let b : l .left < across (a .s) = i .loop-test .taken in
+    let here = c .before .strip-window .ensures in (
+      answered (now (a .text)) (now (a .pattern)) (a .s) (now (a .flags)) (now (a .listed)) (now (a .offsets))
+          (o .pre .0)
           (o .pre .1) (a .top * across (a .s) + l .left) (place-in i) _
-          (strip-window (now (a .text)) (now (a .pattern)) (a .s) (l .left) (a .top) b),
+          (strip-window (now (a .text)) (now (a .pattern)) (a .s) (l .left) (a .top) b _ here),
       omega (
         arith,
         l .inv .1,
-        ap length (strip-piece (now (a .text)) (now (a .pattern)) (a .s) (l .left) (a .top) b),
+        ap length (strip-piece (now (a .text)) (now (a .pattern)) (a .s) (l .left) (a .top) b _ here),
         puts-room (pieceOf (now (a .text)) (now (a .pattern)) (a .s)) (down (a .s) * across (a .s)) _ _ _ (o .pre .4)
             (l .inv .2) (a .top * across (a .s) + l .left) (place-in i),
       ),
@@ -90,20 +96,22 @@ pass-window-requires c κs = let i = c .before .before in
 
 add-left : tie.Need-add-left Inv-loop μ-loop
 add-left c =
-    let i = c .before .before .before .before .before in omega (arith, i .loop-test .taken, entry i .pre .0 .shape)
+    let i = c .before .before .before .before .before .before in
+    omega (arith, i .loop-test .taken, entry i .pre .0 .shape)
 
 loop-less : tie.Need-loop-less Inv-loop μ-loop
-loop-less c = let i = c .before .before .before .before .before in omega (arith, i .loop-test .taken)
+loop-less c = let i = c .before .before .before .before .before .before in omega (arith, i .loop-test .taken)
 
 loop-again : tie.Need-loop-again Inv-loop μ-loop
-loop-again c = let i = c .before .before .before .before .before in
+loop-again c = let i = c .before .before .before .before .before .before in
     let o = entry i in
     let a = o .args in
     let l = i .before .loop in
-    let w = c .before .before .pass-window .ensures in
+    let w = c .before .before .write-if-found .ensures in
     let k = a .top * across (a .s) + l .left in
     let n : a .top * across (a .s) + (l .left + 1) ≡ k + 1 = omega arith in
-    let x = strip-piece (now (a .text)) (now (a .pattern)) (a .s) (l .left) (a .top) (i .loop-test .taken) in (
+    let x = strip-piece (now (a .text)) (now (a .pattern)) (a .s) (l .left) (a .top) (i .loop-test .taken) _
+    (c .before .before .before .before .strip-window .ensures) in (
       omega (arith, i .loop-test .taken),
       start-next (pieceOf (now (a .text)) (now (a .pattern)) (a .s)) k _ (l .at) _ _ (l .inv .1) x n (w .0),
       found-more (pieceOf (now (a .text)) (now (a .pattern)) (a .s)) (down (a .s) * across (a .s)) (now (a .flags)) _ _
@@ -135,7 +143,8 @@ write-row-spec =
     loop-holds
     add-flag
     shared-slice-read-flag
-    pass-window-requires
+    strip-window-requires
+    write-if-found-requires
     add-left
     loop-less
     loop-again

@@ -11,18 +11,15 @@ use Rattle.listing.specs.Entries.Put.{Puts, Heads, startOf, start-zero, rows-no
 use Rattle.writer.specs.Listing.Strips.{pieceOf, FoundIn, found-none, rows-found}
 use Rattle.writer.proofs.found.write_rows.Statement.{statement}
 use Rattle.writer.proofs.found.write_rows.Tie as tie
-use Rattle.writer.proofs.found.write_rows.Reads as reads
-use Rattle.writer.proofs.found.write_rows.Lts as lts
-use Rattle.writer.proofs.found.write_row.Reads as write-row-reads
 
 abbrev Inv-loop : tie.InvT-loop
-Inv-loop text pattern s symbols places flags heads₀ listing₀ tall at₀ top₀ heads listing at top =
+Inv-loop text pattern s listed offsets flags heads₀ listing₀ tall at₀ top₀ heads listing at top =
     (top ≤ tall) × (at ≡ startOf (pieceOf text pattern s) (top * across s))
     × Heads (pieceOf text pattern s) (across s) top 0 heads ×
     Puts (pieceOf text pattern s) (down s * across s) (FoundIn flags 0 (top * across s)) listing₀ listing
 
 abbrev μ-loop : tie.MeasureT-loop
-μ-loop text pattern s symbols places flags heads₀ listing₀ tall at₀ top₀ heads listing at top = tall - top
+μ-loop text pattern s listed offsets flags heads₀ listing₀ tall at₀ top₀ heads listing at top = tall - top
 
 abbrev entry : tie.In-loop Inv-loop μ-loop → tie.Start Inv-loop μ-loop
 entry c = c .before .before .before .before .before .before .before .before .before
@@ -86,7 +83,8 @@ returns c = let o = c .before .before .before .before .before .before .before .b
       (
         rw e at (l .inv .2),
         subst (λ (n : ℕ). Puts (pieceOf (now (a .text)) (now (a .pattern)) (a .s))
-            (down (a .s) * across (a .s)) (FoundIn (now (a .flags)) 0 (n * across (a .s))) (now (a .listing)) (l .listing)) e
+            (down (a .s) * across (a .s)) (FoundIn (now (a .flags)) 0 (n * across (a .s))) (now (a .listing))
+            (l .listing)) e
             (l .inv .3),
       ),
     )

@@ -20,11 +20,6 @@ use Rattle.writer.specs.Listing.Strips.{pieceOf, RefusedHere, column-ref
 use Rattle.writer.specs.Listing.Strips.{found-length, found-small, strip-window, strip-piece, strip-ended}
 use Rattle.writer.proofs.strips.write_strip.Statement.{statement}
 use Rattle.writer.proofs.strips.write_strip.Tie as tie
-use Rattle.writer.proofs.strips.write_strip.Reads as reads
-use Rattle.writer.proofs.strips.write_strip.Lts as lts
-use Rattle.reach.proofs.places.no_positions.Reads as no-positions-reads
-use Rattle.sweep.proofs.steps.next_end.Reads as next-end-reads
-use Rattle.writer.proofs.entries.write_refused.Reads as write-refused-reads
 
 abbrev Inv-loop : tie.InvT-loop
 Inv-loop text pattern s left flags size first selves earlies heads₀ listing₀ wide tall t last₀ row₀ reached₀ top₀ heads
@@ -81,34 +76,24 @@ sized c =
     let i = c .before .before .before in
     let o = entry i in
     let a = o .args in
-    found-length (now (a .text)) (now (a .pattern)) (a .s) (now (a .flags)) (o .pre .0)
-    (λ k. omega (
-      arith,
-      i .before .before .before .before .before .before .before .before .before .shared-slice-known2
-          .given k,
-    )) (a .size) (o .pre .3) _ (place-in i) (c .if1 .taken)
+    found-length (now (a .text)) (now (a .pattern)) (a .s) (now (a .flags)) (o .pre .0) (a .size) (o .pre .3) _
+    (place-in i) (c .if1 .taken)
 
--- src/strips.rt:50:16
 add-wide : tie.Need-add-wide Inv-loop μ-loop
 add-wide c = omega (arith, c .before .before .before .before .before .pre .0 .shape)
 
--- src/strips.rt:50:16
 sub-wide : tie.Need-sub-wide Inv-loop μ-loop
 sub-wide c = omega (arith, c .before .before .before .before .before .before .pre .0 .shape)
 
--- src/strips.rt:51:16
 add-tall : tie.Need-add-tall Inv-loop μ-loop
 add-tall c = omega (arith, c .before .before .before .before .before .before .before .pre .0 .shape)
 
--- src/strips.rt:51:16
 sub-tall : tie.Need-sub-tall Inv-loop μ-loop
 sub-tall c = omega (arith, c .before .before .before .before .before .before .before .before .pre .0 .shape)
 
--- src/strips.rt:58:20
 no-positions-requires : tie.Need-no-positions-requires Inv-loop μ-loop
 no-positions-requires c κs = search needs
 
--- src/strips.rt:62:5
 loop-holds : tie.Need-loop-holds Inv-loop μ-loop
 loop-holds c = let o = c .before .before .before .before .before .before .before .before .before in (
   omega arith,
@@ -119,27 +104,21 @@ loop-holds c = let o = c .before .before .before .before .before .before .before
       _ _ _ _ _,
 )
 
--- src/strips.rt:63:18
 mul-at : tie.Need-mul-at Inv-loop μ-loop
 mul-at c = omega (arith, c .loop-test .taken, entry c .pre .0 .shape)
 
--- src/strips.rt:63:18
 element-copy-out-at : tie.Need-element-copy-out-at Inv-loop μ-loop
 element-copy-out-at c = omega (arith, c .loop-test .taken, entry c .pre .0 .shape, c .before .loop .inv .2 .long)
 
--- src/strips.rt:64:18
 mul-if1 : tie.Need-mul-if1 Inv-loop μ-loop
 mul-if1 c = omega (arith, place-small (c .before))
 
--- src/strips.rt:64:18
 add-if1 : tie.Need-add-if1 Inv-loop μ-loop
 add-if1 c = omega (arith, place-small (c .before))
 
--- src/strips.rt:64:12
 shared-slice-read-if1 : tie.Need-shared-slice-read-if1 Inv-loop μ-loop
 shared-slice-read-if1 c = let i = c .before .before in omega (arith, place-in i, entry i .pre .0 .flags-room)
 
--- src/strips.rt:65:26
 add-heads : tie.Need-add-heads Inv-loop μ-loop
 add-heads c = let i = c .before .before .before in
     let o = entry i in
@@ -148,34 +127,25 @@ add-heads c = let i = c .before .before .before in
     omega (
       arith,
       here i,
-      found-small (now (a .text)) (now (a .pattern)) (a .s) (now (a .flags)) (o .pre .0)
-          (λ k. omega (
-            arith,
-            i .before .before .before .before .before .before .before .before .before .shared-slice-known2
-                .given k,
-          )) (a .size) (o .pre .3) (l .top * across (a .s) + a .left) (place-in i),
+      found-small (now (a .text)) (now (a .pattern)) (a .s) (now (a .flags)) (o .pre .0) (a .size) (o .pre .3)
+          (l .top * across (a .s) + a .left) (place-in i),
       place-small i,
     )
 
--- src/strips.rt:65:13
 mul-heads : tie.Need-mul-heads Inv-loop μ-loop
 mul-heads c = let i = c .before .before .before in omega (arith, i .loop-test .taken, entry i .pre .0 .shape)
 
--- src/strips.rt:65:13
 element-write-heads : tie.Need-element-write-heads Inv-loop μ-loop
 element-write-heads c =
     let i = c .before .before .before in
     omega (arith, i .loop-test .taken, entry i .pre .0 .shape, i .before .loop .inv .2 .long)
 
--- src/strips.rt:66:13
 add-top : tie.Need-add-top Inv-loop μ-loop
 add-top c = let i = c .before .before .before in omega (arith, i .loop-test .taken, entry i .pre .0 .shape)
 
--- src/strips.rt:62:5
 loop-less : tie.Need-loop-less Inv-loop μ-loop
 loop-less c = let i = c .before .before .before in omega (arith, i .loop-test .taken)
 
--- src/strips.rt:62:5
 loop-again : tie.Need-loop-again Inv-loop μ-loop
 loop-again c = let i = c .before .before .before in
     let o = entry i in
@@ -188,24 +158,26 @@ loop-again c = let i = c .before .before .before in
       column-found _ _ _ _ _ _ _ (l .top) (l .inv .3) (c .if1 .taken),
     )
 
--- src/strips.rt:69:13
 next-end-requires : tie.Need-next-end-requires Inv-loop μ-loop
 next-end-requires c κs =
     let i = c .before .before .before .before in let o = entry i in run-asks _ _ _ _ _ _ _ (o .pre .1) (o .pre .2) _ _ _
     _ (within i) (i .before .loop .inv .1)
 
--- src/strips.rt:89:22
+strip-window-requires : tie.Need-strip-window-requires Inv-loop μ-loop
+strip-window-requires c κs = search needs
+
 write-refused-requires : tie.Need-write-refused-requires Inv-loop μ-loop
-write-refused-requires c κs = let i = c .before .before .before .before .before .before in
+write-refused-requires c κs = let i = c .before .before .before .before .before .before .before in
     let o = entry i in
     let a = o .args in
     let l = i .before .loop in
-    let e = c .before .next-end .ensures in
+    let e = c .before .before .next-end .ensures in
     let h = within i in
-    let w = strip-window (now (a .text)) (now (a .pattern)) (a .s) (a .left) (l .top) (o .pre .2) in (
+    let here-is = c .before .strip-window .ensures in
+    let w = strip-window (now (a .text)) (now (a .pattern)) (a .s) (a .left) (l .top) (o .pre .2) _ here-is in (
       unmatched (now (a .text)) (now (a .pattern)) (a .s) (now (a .flags)) (o .pre .0)
-          (l .top * across (a .s) + a .left) (place-in i) (c .before .before .before .if1 .left) _ w,
-      strip-ended (now (a .text)) (now (a .pattern)) (a .s) (a .left) (l .top) (o .pre .2) _ _
+          (l .top * across (a .s) + a .left) (place-in i) (c .before .before .before .before .if1 .left) _ w,
+      strip-ended (now (a .text)) (now (a .pattern)) (a .s) (a .left) (l .top) (o .pre .2) _ here-is _ _
           (end-at _ _ _ _ _ _ _ (o .pre .1) (o .pre .2) _ _ _ _ h (l .inv .1) _ _ e)
           (earlier-at _ _ _ _ _ _ _ (o .pre .1) (o .pre .2) _ _ _ _ h (l .inv .1) _ _ e),
       omega (
@@ -213,44 +185,40 @@ write-refused-requires c κs = let i = c .before .before .before .before .before
         here i,
         room i,
         ap length
-            (strip-piece (now (a .text)) (now (a .pattern)) (a .s) (a .left) (l .top) (o .pre .2)),
+            (strip-piece (now (a .text)) (now (a .pattern)) (a .s) (a .left) (l .top) (o .pre .2) _ here-is),
       ),
     )
 
--- src/strips.rt:89:9
 mul-heads-2 : tie.Need-mul-heads-2 Inv-loop μ-loop
 mul-heads-2 c =
-    let i = c .before .before .before .before .before .before .before .before .before in
+    let i = c .before .before .before .before .before .before .before .before .before .before in
     omega (arith, i .loop-test .taken, entry i .pre .0 .shape)
 
--- src/strips.rt:89:9
 element-write-heads-2 : tie.Need-element-write-heads-2 Inv-loop μ-loop
 element-write-heads-2 c =
-    let i = c .before .before .before .before .before .before .before .before .before in
+    let i = c .before .before .before .before .before .before .before .before .before .before in
     omega (arith, i .loop-test .taken, entry i .pre .0 .shape, i .before .loop .inv .2 .long)
 
--- src/strips.rt:92:9
 add-top-2 : tie.Need-add-top-2 Inv-loop μ-loop
 add-top-2 c =
-    let i = c .before .before .before .before .before .before .before .before .before in
+    let i = c .before .before .before .before .before .before .before .before .before .before in
     omega (arith, i .loop-test .taken, entry i .pre .0 .shape)
 
--- src/strips.rt:62:5
 loop-less-2 : tie.Need-loop-less-2 Inv-loop μ-loop
 loop-less-2 c =
-    let i = c .before .before .before .before .before .before .before .before .before in
+    let i = c .before .before .before .before .before .before .before .before .before .before in
     omega (arith, i .loop-test .taken)
 
--- src/strips.rt:62:5
 loop-again-2 : tie.Need-loop-again-2 Inv-loop μ-loop
-loop-again-2 c = let i = c .before .before .before .before .before .before .before .before .before in
+loop-again-2 c = let i = c .before .before .before .before .before .before .before .before .before .before in
     let o = entry i in
     let a = o .args in
     let l = i .before .loop in
-    let e = c .before .before .before .before .next-end .ensures in
+    let e = c .before .before .before .before .before .next-end .ensures in
     let h = within i in
     let w = c .before .before .write-refused .ensures in
-    let x = strip-piece (now (a .text)) (now (a .pattern)) (a .s) (a .left) (l .top) (o .pre .2) in (
+    let x = strip-piece (now (a .text)) (now (a .pattern)) (a .s) (a .left) (l .top) (o .pre .2) _
+    (c .before .before .before .before .strip-window .ensures) in (
       omega (arith, i .loop-test .taken),
       run-more _ _ _ _ _ _ _ (o .pre .1) (o .pre .2) _ _ _ _ h (l .inv .1) _ _ e,
       column-more _ _ _ _ (l .top) (l .heads) (l .inv .2) h (omega (arith, o .pre .0 .shape)) _
@@ -258,11 +226,9 @@ loop-again-2 c = let i = c .before .before .before .before .before .before .befo
       column-refused _ _ _ _ _ _ _ (l .top) (l .inv .3) (o .pre .5) _ _ _ (place-in i) (here i) x (w .1),
     )
 
--- src/strips.rt:24:1
 same-length : tie.Need-same-length Inv-loop μ-loop
 same-length c = c .before .loop .inv .3 .long
 
--- src/strips.rt:24:1
 returns : tie.Need-returns Inv-loop μ-loop
 returns c = let o = c .before .before .before .before .before .before .before .before .before .before .before in
     let a = o .args in
@@ -297,6 +263,7 @@ write-strip-spec =
     loop-less
     loop-again
     next-end-requires
+    strip-window-requires
     write-refused-requires
     mul-heads-2
     element-write-heads-2

@@ -1,9 +1,9 @@
 -- `strips::write_strips` meets its contract. The invariant: each row has come to its place in column left, and the
 -- refused windows of the strips before are written.
 -- Assumes nothing.
-use mathlib.Core.Path.{_≡_, ap, subst}
+use mathlib.Core.Path.{_≡_, subst}
 use native.Mathlib.Omega.{arith}
-use Prim.Native.Nat.{ℕ, _+_, _-_, _*_, _≤_}
+use Prim.Native.Nat.{ℕ, _-_, _*_, _≤_}
 use denote.Ref.{now}
 use borrow.Author.Needs.{needs}
 use Rattle.theory.specs.Older.Laws.{zeros-long}
@@ -12,31 +12,23 @@ use Rattle.sweep.specs.Sweep.{SweepAt}
 use Rattle.sweep.specs.Sweep.Own.{own-rows-le, owns-as}
 use Rattle.sweep.specs.Sweep.Runs.{sides-of}
 use Rattle.listing.specs.Entries.Put.{Puts, Heads}
-use Rattle.writer.specs.Listing.Whole.{pattern-fits}
 use Rattle.writer.specs.Listing.Strips.{pieceOf, RefusedIn, columns-none, columns-more}
 use Rattle.writer.proofs.strips.write_strips.Statement.{statement}
 use Rattle.writer.proofs.strips.write_strips.Tie as tie
-use Rattle.writer.proofs.strips.write_strips.Reads as reads
-use Rattle.writer.proofs.strips.write_strips.Lts as lts
-use Rattle.reach.proofs.places.first_places.Reads as first-places-reads
-use Rattle.reach.proofs.places.no_positions.Reads as no-positions-reads
-use Rattle.sets.proofs.symbols.pattern_size.Reads as pattern-size-reads
-use Rattle.sweep.proofs.own.own_ends.Reads as own-ends-reads
-use Rattle.writer.proofs.strips.write_strip.Reads as write-strip-reads
 
 abbrev Inv-loop : tie.InvT-loop
-Inv-loop text pattern s flags heads₀ listing₀ wide size first selves earlies n left₀ heads listing left =
+Inv-loop text pattern s flags size first heads₀ listing₀ wide selves earlies n left₀ heads listing left =
     (left ≤ wide) × SweepAt text s pattern first selves earlies
     × Heads (pieceOf text pattern s) (across s) (down s) left heads ×
     Puts (pieceOf text pattern s) (down s * across s) (RefusedIn flags (across s) (down s) left) listing₀ listing
 
 abbrev μ-loop : tie.MeasureT-loop
-μ-loop text pattern s flags heads₀ listing₀ wide size first selves earlies n left₀ heads listing left = wide - left
+μ-loop text pattern s flags size first heads₀ listing₀ wide selves earlies n left₀ heads listing left = wide - left
 
 abbrev entry : tie.In-loop Inv-loop μ-loop → tie.Start Inv-loop μ-loop
 entry c =
     c .before .before .before .before .before .before .before .before .before .before .before .before .before .before
-    .before .before .before .before .before .before .before
+    .before .before
 
 add-wide : tie.Need-add-wide Inv-loop μ-loop
 add-wide c = omega (arith, c .before .before .before .before .before .pre .0 .shape)
@@ -44,103 +36,70 @@ add-wide c = omega (arith, c .before .before .before .before .before .pre .0 .sh
 sub-wide : tie.Need-sub-wide Inv-loop μ-loop
 sub-wide c = omega (arith, c .before .before .before .before .before .before .pre .0 .shape)
 
-pattern-size-requires : tie.Need-pattern-size-requires Inv-loop μ-loop
-pattern-size-requires c κs =
-    let o = c .before .before .before .before .before .before in pattern-fits (now (o .args .text))
-    (now (o .args .pattern)) (o .args .s) (now (o .args .flags)) (o .pre .0)
-
-cast-size : tie.Need-cast-size Inv-loop μ-loop
-cast-size c = search needs
-
-mul-size : tie.Need-mul-size Inv-loop μ-loop
-mul-size c = search needs
-
-add-size : tie.Need-add-size Inv-loop μ-loop
-add-size c = search needs
-
 no-positions-requires : tie.Need-no-positions-requires Inv-loop μ-loop
 no-positions-requires c κs = search needs
 
 no-positions-requires-2 : tie.Need-no-positions-requires-2 Inv-loop μ-loop
 no-positions-requires-2 c κs = search needs
 
-no-positions-requires-3 : tie.Need-no-positions-requires-3 Inv-loop μ-loop
-no-positions-requires-3 c κs = search needs
-
-first-places-requires : tie.Need-first-places-requires Inv-loop μ-loop
-first-places-requires c κs = zeros-long _ (c .before .before .before .no-positions .ensures)
-
 add-own-rows : tie.Need-add-own-rows Inv-loop μ-loop
-add-own-rows c =
-    omega (
-      arith,
-      c .before .before .before .before .before .before .before .before .before .before .before .before
-          .before .pre .0 .shape,
-    )
+add-own-rows c = omega (arith, c .before .before .before .before .before .before .before .before .before .pre .0 .shape)
 
 sub-own-rows : tie.Need-sub-own-rows Inv-loop μ-loop
 sub-own-rows c =
-    omega (
-      arith,
-      c .before .before .before .before .before .before .before .before .before .before .before .before
-          .before .before .pre .0 .shape,
-    )
+    omega (arith, c .before .before .before .before .before .before .before .before .before .before .pre .0 .shape)
 
 own-rows-requires : tie.Need-own-rows-requires Inv-loop μ-loop
 own-rows-requires c κs = search needs
 
 own-ends-requires : tie.Need-own-ends-requires Inv-loop μ-loop
 own-ends-requires c κs =
-    let o = c .before .before .before .before .before .before .before .before .before .before .before .before .before
-    .before .before .before .before .before in (
+    let o = c .before .before .before .before .before .before .before .before .before .before .before .before
+    .before in (
       sides-of (now (o .args .text)) (o .args .s) _ (o .pre .0 .shape) (o .pre .0 .size),
-      c .before .before .before .before .before .before .first-places .ensures,
-      zeros-long _ (c .before .before .before .before .before .before .before .before .before .no-positions2 .ensures),
-      zeros-long _ (c .before .before .before .before .before .before .before .before .no-positions3 .ensures),
-      omega (arith, c .before .before .before .own-rows .ensures, own-rows-le (o .args .s .height) (down (o .args .s))),
+      o .pre .2,
+      zeros-long _ (c .before .before .before .before .before .before .no-positions .ensures),
+      zeros-long _ (c .before .before .before .before .before .no-positions2 .ensures),
+      omega (arith, c .before .before .own-rows .ensures, own-rows-le (o .args .s .height) (down (o .args .s))),
     )
 
 loop-holds : tie.Need-loop-holds Inv-loop μ-loop
 loop-holds c =
     let o = c .before .before .before .before .before .before .before .before .before .before .before .before .before
-    .before .before .before .before .before .before in (
+    .before in (
       omega arith,
       record {
         shape = o .pre .0 .shape;
         cells = o .pre .0 .size;
-        places = c .before .before .before .before .before .before .before .first-places .ensures;
-        owns = owns-as _ _ _ _ _ _ (c .before .before .before .before .own-rows .ensures) (c .own-ends .ensures);
+        places = o .pre .2;
+        owns = owns-as _ _ _ _ _ _ (c .before .before .before .own-rows .ensures) (c .own-ends .ensures);
       },
-      o .pre .1,
+      o .pre .3,
       columns-none _ _ _ _ _ _,
     )
 
 write-strip-requires : tie.Need-write-strip-requires Inv-loop μ-loop
-write-strip-requires c κs = let i = c .before .before .before .before .before in
+write-strip-requires c κs = let i = c .before .before .before .before in
     let o = entry i in
     let l = i .before .loop in (
       o .pre .0,
       l .inv .1,
       i .loop-test .taken,
-      ap (λ d. 3 + 3 * d)
-          (c .before .before .before .before .before .before .before .before .before .before .before .before .before .before
-          .before .before .before .before .before .pattern-size .ensures),
+      o .pre .1,
       l .inv .2,
-      omega
-          (arith, o .pre .2, l .inv .3 .long),
+      omega (arith, o .pre .4, l .inv .3 .long),
     )
 
 add-left : tie.Need-add-left Inv-loop μ-loop
 add-left c =
-    let i = c .before .before .before .before .before .before .before .before in
+    let i = c .before .before .before .before .before .before .before in
     omega (arith, i .loop-test .taken, entry i .pre .0 .shape)
 
 loop-less : tie.Need-loop-less Inv-loop μ-loop
-loop-less c =
-    let i = c .before .before .before .before .before .before .before .before in omega (arith, i .loop-test .taken)
+loop-less c = let i = c .before .before .before .before .before .before .before in omega (arith, i .loop-test .taken)
 
 loop-again : tie.Need-loop-again Inv-loop μ-loop
-loop-again c = let i = c .before .before .before .before .before .before .before .before in
+loop-again c = let i = c .before .before .before .before .before .before .before in
     let l = i .before .loop in
     let w = c .before .before .write-strip .ensures in
     (omega (arith, i .loop-test .taken), l .inv .1, w .0, columns-more _ _ _ _ _ _ _ _ (l .left) (l .inv .3) (w .1))
@@ -151,7 +110,7 @@ same-length c = c .before .loop .inv .3 .long
 returns : tie.Need-returns Inv-loop μ-loop
 returns c =
     let o = c .before .before .before .before .before .before .before .before .before .before .before .before .before
-    .before .before .before .before .before .before .before .before in
+    .before .before .before in
     let a = o .args in
     let l = c .before .loop in
     let e : l .left ≡ across (a .s) = omega (arith, c .loop-test .left, l .inv .0) in
@@ -166,14 +125,8 @@ write-strips-spec =
     μ-loop
     add-wide
     sub-wide
-    pattern-size-requires
-    cast-size
-    mul-size
-    add-size
     no-positions-requires
     no-positions-requires-2
-    no-positions-requires-3
-    first-places-requires
     add-own-rows
     sub-own-rows
     own-rows-requires

@@ -1,0 +1,77 @@
+-- `wanted::may_match` meets its contract: a window of another count is passed by; a pair that is not alike and a first row
+-- that does not agree each say that a mismatch ends in the window.
+-- Assumes nothing.
+use mathlib.Core.Path.{_∙_, sym}
+use Prim.Native.Nat.{_+_, _*_, _<_}
+use native.Mathlib.Omega.{arith}
+use borrow.Author.Tests.{not-true}
+use lib.ListN.{length}
+use denote.Ref.{now}
+use Rattle.sieve.specs.Sieve.Laws.{corner-small, pairs-inside, pairs-differ, rows-ask, rows-down, rows-small, rows-told}
+use borrow.Author.Needs.{needs}
+use Rattle.sieve.proofs.wanted.may_match.Statement.{statement}
+use Rattle.sieve.proofs.wanted.may_match.Tie as tie
+use Rattle.reach.proofs.places.no_positions.Reads as no-positions-reads
+use Rattle.reach.proofs.reach.reach.Reads as reach-reads
+
+returns : tie.Need-returns
+returns c = search needs
+
+mul-pairs-alike : tie.Need-mul-pairs-alike
+mul-pairs-alike c =
+    let o = c .before .before .before .before in omega (arith, corner-small _ _ _ _ _ _ _ _ (o .pre .0) (o .pre .1))
+
+add-pairs-alike : tie.Need-add-pairs-alike
+add-pairs-alike c =
+    let o = c .before .before .before .before in omega (arith, corner-small _ _ _ _ _ _ _ _ (o .pre .0) (o .pre .1))
+
+pairs-alike-requires : tie.Need-pairs-alike-requires
+pairs-alike-requires c κs = let o = c .before .before .before .before in pairs-inside _ _ _ _ _ _ _ _ (o .pre .0) (o .pre .1)
+
+returns-2 : tie.Need-returns-2
+returns-2 c =
+    let o = c .before .before .before .before .before .before in
+    λ _ _. pairs-differ _ _ _ _ _ _ _ _ (o .pre .0) (o .pre .1)
+    (sym (c .before .pairs-alike .ensures) ∙ not-true _ (c .if2 .taken))
+
+first-rows-requires : tie.Need-first-rows-requires
+first-rows-requires c κs = search needs
+
+no-positions-requires : tie.Need-no-positions-requires
+no-positions-requires c κs = search needs
+
+reach-requires : tie.Need-reach-requires
+reach-requires c κs =
+    let o = c .before .before .before .before .before .before .before .before .before in
+    rows-ask _ _ _ _ _ _ _ _ (o .pre .0) (o .pre .1) _ (c .before .before .first-rows .ensures) _ (c .before .no-positions .ensures)
+
+add-result : tie.Need-add-result
+add-result c =
+    let o = c .before .before .before .before .before .before .before .before .before .before in
+    omega (arith, o .pre .0 .shape, rows-down _ _ _ _ _ _ _ _ (o .pre .0) (o .pre .1) _ (c .before .before .before .first-rows .ensures))
+
+mul-result : tie.Need-mul-result
+mul-result c =
+    let o = c .before .before .before .before .before .before .before .before .before .before .before in
+    omega (arith, rows-small _ _ _ _ _ _ _ _ (o .pre .0) (o .pre .1) _ (c .before .before .before .before .first-rows .ensures))
+
+returns-3 : tie.Need-returns-3
+returns-3 c =
+    let o = c .before .before .before .before .before .before .before .before .before .before .before .before in
+    λ e _. rows-told _ _ _ _ _ _ _ _ (o .pre .0) (o .pre .1) _ (c .before .before .before .before .before .first-rows .ensures) _ _ _ (c .before .before .reach .ensures) e
+
+pub may-match-spec : {M : Type 1} → statement M
+may-match-spec =
+    tie.close
+    (tie.spec
+    returns
+    mul-pairs-alike
+    add-pairs-alike
+    pairs-alike-requires
+    returns-2
+    first-rows-requires
+    no-positions-requires
+    reach-requires
+    add-result
+    mul-result
+    returns-3)

@@ -1,0 +1,41 @@
+-- The cheap test that a strip is asked before its links are found: where no window of the right count has the pattern's
+-- pairs alike and agrees with it in the first rows, no window of the strip matches. It need not be right the other way:
+-- a strip that passes it is given links, and they decide.
+-- Assumes nothing.
+pub mod Laws
+use mathlib.Core.Path.{_≡_}
+use mathlib.Core.List.{List}
+use Prim.Native.Nat.{ℕ, _+_, _*_, _/_, _<_}
+use lib.Dec.{ltb}
+use lib.ListN.{length, getD}
+use Rattle.theory.specs.Test.{pick}
+use Rattle.theory.specs.Match.{firstEnd}
+use Rattle.shapes.specs.Shapes.{ShapeOf, across, down}
+use Rattle.shapes.specs.Windows.{stripAt}
+use Rattle.shapes.specs.declared.shapes.Shape.{Shape}
+use Rattle.prefixes.specs.Prefixes.{suffix}
+use Rattle.prefixes.specs.State.{FirstPlaces}
+use Rattle.sieve.specs.Pairs.{AlikePairs}
+
+-- a mismatch ends in the window at row top of the strip at column left
+abbrev pub Differs : List ℕ → List ℕ → Shape → ℕ → ℕ → Type 0
+Differs text pattern s left top =
+    firstEnd (λ k. getD pattern k 0) (suffix (stripAt text (s .columns) left (s .width)) (top * s .width))
+    (length pattern) < length pattern
+
+-- in every window of the right count
+abbrev pub StripDiffers : List ℕ → List ℕ → Shape → ℕ → ℕ → List ℕ → Type 0
+StripDiffers text pattern s left symbols counts =
+    (top : ℕ) → top < down s → getD counts (top * across s + left) 0 ≡ symbols → Differs text pattern s left top
+
+-- as many first rows as have sixteen cells and one more, or all
+abbrev pub firstRows : ℕ → ℕ → ℕ
+firstRows height width = pick (ltb (2 + 15 / width) height) (2 + 15 / width) height
+
+-- what the test of a strip asks
+pub record RowsAsked (text pattern first earlier later : List ℕ) (s : Shape) (left : ℕ) : Type 0 where
+  pub shape : ShapeOf s (length text)
+  pub size : length pattern ≡ s .height * s .width
+  pub beside : left < across s
+  pub places : FirstPlaces (λ k. getD pattern k 0) (length pattern) first
+  pub pairs : AlikePairs pattern (s .columns) (s .width) earlier later

@@ -1,0 +1,221 @@
+-- Laws of the test: the cells of the pairs lie in the text, what a pair that is not alike and a first row that does not
+-- agree say of a window, and window after window.
+-- Assumes nothing.
+use mathlib.Core.Path.{_≡_, refl, sym, _∙_, ap}
+use mathlib.Core.Bool.{Bool, false}
+use mathlib.Core.List.{List}
+use Prim.Native.Nat.{ℕ, _+_, _-_, _*_, _/_, _%_, _≤_, _<_}
+use native.Mathlib.Nat.{add-zero, one-mul, add-mul, mul-le-mul-right, mod-lt, div-lt-iff-lt-mul}
+use native.Mathlib.Omega.{arith}
+use lib.Dec.{eqb}
+use lib.ListN.{length, getD, replicate}
+use Rattle.theory.specs.Test.{pick, Tested, holds, fails}
+use Rattle.theory.specs.Test.Laws.{eq-tested, lt-tested, says-false, true-false}
+use Rattle.theory.specs.First.{First, first, every}
+use Rattle.theory.specs.First.Laws.{first-spec, every-tested}
+use Rattle.theory.specs.Match.{ends, firstEnd}
+use Rattle.theory.specs.Older.Laws.{older-zeros}
+use Rattle.shapes.specs.Shapes.{ShapeOf, across, down}
+use Rattle.shapes.specs.Shapes.Laws.{product-le}
+use Rattle.shapes.specs.Windows.{windowAt, stripAt}
+use Rattle.shapes.specs.declared.shapes.Shape.{Shape}
+use Rattle.grid.specs.Strips.{StripOf, stripFrom}
+use Rattle.prefixes.specs.Prefixes.{suffix}
+use Rattle.prefixes.specs.State.Laws.{swept-none}
+use Rattle.reach.specs.Reach.{ReachAt, Reached}
+use Rattle.reach.specs.Reach.Laws.{window-suffix}
+use Rattle.sieve.specs.Pairs.{offsetOf, PairAt, PairsInside, alikeAt, clear-alike, offset-at}
+use Rattle.sieve.specs.Sieve.{Differs, StripDiffers, RowsAsked, firstRows}
+
+-- a mismatch that ends in the first k positions ends in all n
+early : (m w : ℕ → ℕ) (n k f : ℕ) → f ≡ firstEnd m w k → f < k → k ≤ n → firstEnd m w n < n
+unfolding firstEnd
+early m w n k f e h l =
+    let a : First (ends m w) k f = rw e (first-spec (ends m w) k) in
+    let b = first-spec (ends m w) n in
+    let over : f < first (ends m w) n → ⊥ = λ x. true-false (a .hit h) (b .before f x) in
+    omega arith
+
+-- at least one row, and no more than there are
+pub rows-some : (height width : ℕ) → 0 < height → 0 < firstRows height width
+rows-some height width h = go (lt-tested (2 + 15 / width) height)
+  where
+    go : {b : Bool} → Tested (2 + 15 / width < height) b → 0 < pick b (2 + 15 / width) height
+    go (holds x) = omega arith
+    go (fails x) = h
+
+pub rows-fit : (height width : ℕ) → firstRows height width ≤ height
+rows-fit height width = go (lt-tested (2 + 15 / width) height)
+  where
+    go : {b : Bool} → Tested (2 + 15 / width < height) b → pick b (2 + 15 / width) height ≤ height
+    go (holds x) = omega arith
+    go (fails x) = omega arith
+
+-- ---- one window
+
+module _ (text pattern first earlier later : List ℕ) (s : Shape) (left top : ℕ)
+    (asked : RowsAsked text pattern first earlier later s left) (inside : top < down s) where
+  -- a position of the window lies in the text
+  cell-in : (p : ℕ) → p < length pattern → top * s .columns + left + offsetOf (s .columns) (s .width) p < length text
+  cell-in p h =
+      let v = asked .shape in
+      let some : 0 < s .width = omega arith in
+      let row : p / s .width < s .height = div-lt-iff-lt-mul some .1 (omega (arith, asked .size)) in
+      let column : p % s .width < s .width = mod-lt p some in
+      let b = asked .beside in
+      omega (
+        arith,
+        inside,
+        add-mul top (p / s .width) (s .columns),
+        add-mul (top + p / s .width) 1 (s .columns),
+        one-mul (s .columns),
+        mul-le-mul-right (s .columns) (wider row),
+        v .cells-is,
+      )
+    where
+      wider : p / s .width < s .height → top + p / s .width + 1 ≤ s .rows
+      wider l = let v = asked .shape in omega (arith, inside)
+
+  pub corner-small : top * s .columns + left ≤ 65280
+  corner-small =
+      let v = asked .shape in
+      let b = asked .beside in
+      omega (arith, inside, product-le top (s .columns) 255 255 (omega (arith, inside)) (omega arith))
+
+  pub pairs-inside : PairsInside (length text) (top * s .columns + left) earlier later
+  pairs-inside =
+      let v = asked .shape in
+      record {
+        earlier-long = asked .pairs .earlier-long;
+        later-long = asked .pairs .later-long;
+        small = omega (arith, product-le (s .rows) (s .columns) 255 255 (omega arith) (omega arith), v .cells-is);
+        earlier-in = λ i h. let a = asked .pairs .each i h in rw (a .x-is) (cell-in (a .p) (a .p-in));
+        later-in = λ i h. let a = asked .pairs .each i h in rw (a .y-is) (cell-in (a .q) (a .q-in));
+      }
+
+  -- a pair whose cells are not alike in the window
+  pub pairs-differ : every (alikeAt text (top * s .columns + left) earlier later) 8 ≡ false
+      → Differs text pattern s left top
+  pairs-differ e = go (lt-tested (firstEnd m w (length pattern)) (length pattern))
+    where
+      m : ℕ → ℕ
+      m = λ k. getD pattern k 0
+
+      w : ℕ → ℕ
+      w = suffix (stripAt text (s .columns) left (s .width)) (top * s .width)
+
+      w-at : (p : ℕ) → getD text (top * s .columns + left + offsetOf (s .columns) (s .width) p) 0 ≡ w p
+      w-at p =
+          let v = asked .shape in
+          offset-at text (s .columns) top left (s .width) p
+          ∙ ap (λ (f : ℕ → ℕ). f p)
+          (sym (window-suffix text (stripFrom (s .rows) (s .columns) (s .width) left) top (omega arith)))
+
+      -- where no mismatch ends all pairs are alike
+      alike : (length pattern ≤ firstEnd m w (length pattern)) → (i : ℕ) → i < 8
+          → getD text (top * s .columns + left + getD earlier i 0) 0
+          ≡ getD text (top * s .columns + left + getD later i 0) 0
+      alike none i h =
+          let a = asked .pairs .each i h in
+          rw (a .x-is, a .y-is, w-at (a .p), w-at (a .q))
+          (clear-alike m w (length pattern) none (a .p) (a .q) (a .p-in) (a .q-in) (a .alike))
+
+      go : {b : Bool} → Tested (firstEnd m w (length pattern) < length pattern) b
+          → firstEnd m w (length pattern) < length pattern
+      go (holds h) = h
+      go (fails h) = absurd (says-false (every-tested _ 8 (λ i. eq-tested _ _)) e (alike (omega arith)))
+
+  strip-of : StripOf (stripFrom (s .rows) (s .columns) (s .width) left) (length text)
+  strip-of =
+      let v = asked .shape in
+      let z = v .sized in
+      let b = asked .beside in
+      record {
+        shape = record {
+          sized = record {
+            sides =
+                record {
+                  rows-good = z .sides .rows-good;
+                  columns-good = z .sides .columns-good;
+                  height-good = z .sides .rows-good;
+                  width-good = z .sides .width-good;
+                };
+            fitting = record { height-le = omega arith; width-le = z .fitting .width-le };
+          };
+          cells-is = v .cells-is;
+        };
+        inside = omega (arith, z .fitting .width-le);
+      }
+
+  module _ (rows : ℕ) (rows-is : rows ≡ firstRows (s .height) (s .width)) where
+    some : 0 < rows
+    some = let v = asked .shape in rw rows-is (rows-some (s .height) (s .width) (omega arith))
+
+    fit : rows ≤ s .height
+    fit = rw rows-is (rows-fit (s .height) (s .width))
+
+    -- the pattern has so many rows
+    cells-fit : rows * s .width ≤ length pattern
+    cells-fit = omega (arith, mul-le-mul-right (s .width) fit, asked .size)
+
+    pub rows-down : top + rows ≤ s .rows
+    rows-down = let v = asked .shape in omega (arith, inside, fit)
+
+    pub rows-ask : (last : List ℕ) → last ≡ replicate 256 0
+        → ReachAt text (stripFrom (s .rows) (s .columns) (s .width) left) pattern first last top rows top 0
+    rows-ask last e =
+        let v = asked .shape in
+        record {
+          strip = strip-of;
+          down = rows-down;
+          cells = cells-fit;
+          places = asked .places;
+          narrow = omega arith;
+          within = omega (arith, add-mul top rows (s .width));
+          swept = rw add-zero (swept-none _ _ (top * s .width) last (older-zeros _ last (omega arith) e));
+        }
+
+    pub rows-small : (top + rows) * s .width ≤ 65025
+    rows-small =
+        let v = asked .shape in
+        omega (arith, product-le (top + rows) (s .width) 255 255 (omega (arith, rows-down)) (omega arith))
+
+    -- a window that does not agree in its first rows
+    pub rows-told : (place earlier : ℕ) (last : List ℕ)
+        → Reached text (stripFrom (s .rows) (s .columns) (s .width) left) pattern top rows
+        (record { place = place; earlier = earlier }) last
+        → eqb place ((top + rows) * s .width) ≡ false → Differs text pattern s left top
+    rows-told place earlier last got e =
+        let n = says-false (eq-tested place ((top + rows) * s .width)) e in
+        let d : place ≡ (top + rows) * s .width → ⊥ = n in
+        early _ _ (length pattern) (rows * s .width) (place - top * s .width) (got .end .end-is)
+        (omega (arith, got .within, got .swept .order, add-mul top rows (s .width))) cells-fit
+
+-- ---- window after window
+
+-- the windows passed do not match
+pub record RowsTo (text pattern : List ℕ) (s : Shape) (left symbols : ℕ) (counts : List ℕ) (top : ℕ) : Type 0 where
+  pub top-le : top ≤ down s
+  pub differ : (k : ℕ) → k < top → getD counts (k * across s + left) 0 ≡ symbols → Differs text pattern s left k
+
+module _ (text pattern : List ℕ) (s : Shape) (left symbols : ℕ) (counts : List ℕ) where
+  pub rows-none : RowsTo text pattern s left symbols counts 0
+  rows-none = record { top-le = omega arith; differ = λ k h. absurd (none k h) }
+    where
+      none : (k : ℕ) → k < 0 → ⊥
+      none k h = omega arith
+
+  pub rows-more : (top count : ℕ) → top < down s → count ≡ getD counts (top * across s + left) 0
+      → (count ≡ symbols → Differs text pattern s left top) → RowsTo text pattern s left symbols counts top
+      → RowsTo text pattern s left symbols counts (top + 1)
+  rows-more top count inside ec told here =
+      record { top-le = omega arith; differ = λ k h. go k h (eq-tested k top) }
+    where
+      go : (k : ℕ) {b : Bool} → k < top + 1 → Tested (k ≡ top) b
+          → getD counts (k * across s + left) 0 ≡ symbols → Differs text pattern s left k
+      go k h (holds d) x = rw d (told (ec ∙ rw d at x))
+      go k h (fails d) x = here .differ k (omega arith) x
+
+  pub rows-all : (top : ℕ) → down s ≤ top → RowsTo text pattern s left symbols counts top
+      → StripDiffers text pattern s left symbols counts
+  rows-all top h here k i = here .differ k (omega arith)

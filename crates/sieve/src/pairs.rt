@@ -1,0 +1,74 @@
+// Eight pairs of cells that are alike in the pattern. A window in which the cells of one of them are not alike does not
+// match, whatever else stands in it; on a random text nearly every window is told by them.
+ghost use mathlib.Core.Path.{_≡_};
+ghost use Prim.Native.Nat.{_≤_, _<_};
+ghost use lib.ListN.{length, getD, replicate};
+ghost use Rattle.theory.specs.First.{every};
+ghost use Rattle.prefixes.specs.State.{FirstPlaces};
+ghost use Rattle.sieve.specs.Pairs.{offsetOf, AlikePairs, PairsInside, alikeAt};
+
+// Eight times the corner itself: a pair of a cell with itself, which is alike in every window.
+pub fn no_offsets() -> [usize; 8]
+    ensures { λ r. ⌜ r ≡ replicate 8 0 ⌝ }
+{
+    [0usize; 8]
+}
+
+// How far behind a window's corner its position p lies in the text.
+fn offset(columns: usize, width: usize, p: usize) -> usize
+    requires { ⌜ (0 < width) × (columns ≤ 255) × (p ≤ 65025) ⌝ }
+    ensures { λ r. ⌜ r ≡ offsetOf columns width p ⌝ }
+{
+    p / width * columns + p % width
+}
+
+// The first eight positions whose symbol stands before them in the pattern, each with the first place of that symbol,
+// as offsets. Where there are fewer the rest stays.
+pub fn alike_pairs(
+    pattern: &[u8],
+    first: &[usize; 256],
+    columns: usize,
+    width: usize,
+    earlier: &mut [usize; 8],
+    later: &mut [usize; 8],
+)
+    requires { ⌜
+        FirstPlaces (λ k. getD (now pattern) k 0) (length (now pattern)) (now first) × (0 < width) × (columns ≤ 255)
+        × (length (now pattern) ≤ 65025) × AlikePairs (now pattern) columns width (now earlier) (now later) ⌝ }
+    ensures { λ r. ⌜ AlikePairs (now (pattern .entry)) columns width (now (earlier .exit)) (now (later .exit)) ⌝ }
+{
+    let mut n = 0;
+    let mut q = 0;
+    while q < pattern.len() {
+        if n == 8 {
+            return;
+        }
+        let p = first[pattern[q] as usize];
+        if p == q {
+            q += 1;
+            continue;
+        }
+        earlier[n] = offset(columns, width, p);
+        later[n] = offset(columns, width, q);
+        n += 1;
+        q += 1;
+    }
+}
+
+// Whether the cells of every pair are alike in the window at that corner. All eight are looked at: what is added up
+// needs no branch, and where it would go no machine can foresee.
+pub fn pairs_alike(text: &[u8], corner: usize, earlier: &[usize; 8], later: &[usize; 8]) -> bool
+    requires { ⌜ PairsInside (length (now text)) corner (now earlier) (now later) ⌝ }
+    ensures { λ r. ⌜
+        r ≡ every (alikeAt (now (text .entry)) corner (now (earlier .entry)) (now (later .entry))) 8 ⌝ }
+{
+    let mut unlike = 0u32;
+    let mut i = 0;
+    while i < 8 {
+        if text[corner + earlier[i]] != text[corner + later[i]] {
+            unlike += 1;
+        }
+        i += 1;
+    }
+    unlike == 0
+}

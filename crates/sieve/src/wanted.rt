@@ -1,0 +1,105 @@
+// Whether a strip needs links: not where no window of the right count agrees with the pattern in its pairs and its
+// first rows.
+ghost use mathlib.Core.Path.{_≡_};
+ghost use mathlib.Core.Bool.{false};
+ghost use Prim.Native.Nat.{_*_, _≤_, _<_};
+ghost use lib.ListN.{length};
+ghost use Rattle.shapes.specs.Shapes.{across, down};
+ghost use Rattle.sieve.specs.Pairs.{AlikePairs};
+ghost use Rattle.sieve.specs.Sieve.{Differs, StripDiffers, RowsAsked, firstRows};
+use crate::pairs::pairs_alike;
+use grid::strips::Strip;
+use reach::places::no_positions;
+use reach::reach::reach;
+use shapes::shapes::Shape;
+
+// As many first rows as have sixteen cells, one more, or all: a first row that is constant, a border, tells too little.
+fn first_rows(height: usize, width: usize) -> usize
+    requires { ⌜ 0 < width ⌝ }
+    ensures { λ r. ⌜ r ≡ firstRows height width ⌝ }
+{
+    let rows = 2 + 15 / width;
+    if rows < height {
+        return rows;
+    }
+    height
+}
+
+// Whether the window at row top may match: it has the right count, the pattern's pairs are alike in it, and it agrees
+// with the pattern in its first rows.
+fn may_match(
+    text: &[u8],
+    pattern: &[u8],
+    first: &[usize; 256],
+    earlier: &[usize; 8],
+    later: &[usize; 8],
+    symbols: u16,
+    count: u16,
+    s: Shape,
+    left: usize,
+    top: usize,
+) -> bool
+    requires { ⌜
+        RowsAsked (now text) (now pattern) (now first) (now earlier) (now later) s left × (top < down s) ⌝ }
+    ensures { λ r. ⌜
+        (r ≡ false → count ≡ symbols → Differs (now (text .entry)) (now (pattern .entry)) s left top) ⌝ }
+{
+    if count != symbols {
+        return false;
+    }
+    if !pairs_alike(text, top * s.columns + left, earlier, later) {
+        return false;
+    }
+    let t = Strip {
+        rows: s.rows,
+        columns: s.columns,
+        left,
+        width: s.width,
+    };
+    let rows = first_rows(s.height, s.width);
+    let mut last = no_positions();
+    let r = reach(text, t, pattern, first, &mut last, top, rows, top, 0);
+    r.place == (top + rows) * s.width
+}
+
+// Whether some window at column left may match: a strip without one needs no links.
+pub fn wanted(
+    text: &[u8],
+    pattern: &[u8],
+    first: &[usize; 256],
+    earlier: &[usize; 8],
+    later: &[usize; 8],
+    symbols: u16,
+    s: Shape,
+    left: usize,
+    counts: &[u16],
+) -> bool
+    requires { ⌜
+        RowsAsked (now text) (now pattern) (now first) (now earlier) (now later) s left
+        × (down s * across s ≤ length (now counts)) ⌝ }
+    ensures { λ r. ⌜
+        (r ≡ false → StripDiffers (now (text .entry)) (now (pattern .entry)) s left symbols (now (counts .entry))) ⌝ }
+{
+    let across = s.columns + 1 - s.width;
+    let down = s.rows + 1 - s.height;
+    let mut top = 0;
+    while top < down {
+        let count = counts[top * across + left];
+        if may_match(
+            text,
+            pattern,
+            first,
+            earlier,
+            later,
+            symbols,
+            count,
+            s,
+            left,
+            top,
+        ) {
+            return true;
+        }
+        top += 1;
+    }
+    false
+}

@@ -1,0 +1,138 @@
+-- `offsets::list_offsets` meets its contract. The invariant: the first k symbols have their offsets.
+-- Assumes nothing.
+use mathlib.Core.Path.{_≡_, refl}
+use native.Mathlib.Omega.{arith}
+use native.Mathlib.Nat.{mod-lt}
+use Prim.Native.Nat.{_-_, _*_, _/_, _%_, _≤_, _<_}
+use lib.ListN.{getD}
+use denote.Ref.{now}
+use Rattle.writer.specs.Listing.Offsets.{OffsetsTo, offsets-none, offsets-more, offsets-all, offset-small}
+use Rattle.writer.specs.Listing.Offsets.{firstPlace, place-listed, place-stands, listed-symbol, listed-few}
+use Rattle.writer.proofs.offsets.list_offsets.Statement.{statement}
+use Rattle.writer.proofs.offsets.list_offsets.Tie as tie
+
+abbrev Inv-loop : tie.InvT-loop
+Inv-loop pattern columns width listed first offsets₀ d k₀ offsets k =
+    (k ≤ d) × OffsetsTo pattern columns width listed k offsets
+
+abbrev μ-loop : tie.MeasureT-loop
+μ-loop pattern columns width listed first offsets₀ d k₀ offsets k = d - k
+
+-- the symbol is a byte, and the pattern has it
+symbol-byte : (c : tie.After-shared-slice-known Inv-loop μ-loop) →
+    getD (now (c .before .before .before .args .listed)) (c .before .before .loop .k) 0 < 256
+symbol-byte c =
+    let o = c .before .before .before in listed-symbol (now (o .args .pattern)) (now (o .args .listed)) (o .pre .4)
+    (c .before .before .loop .k) (omega (arith, c .before .loop-test .taken)) .0
+
+-- what the table of first places has of it
+place-is : (c : tie.After-p Inv-loop μ-loop) →
+    let a = c .before .before .before .before .args in
+    let x = getD (now (a .listed)) (c .before .before .before .loop .k) 0 in
+    getD (now (a .first)) x 0 ≡ firstPlace (now (a .pattern)) x
+place-is c = let o = c .before .before .before .before in
+    place-listed (now (o .args .pattern)) (now (o .args .first)) (o .pre .5) _
+    (listed-symbol (now (o .args .pattern)) (now (o .args .listed)) (o .pre .4)
+    (c .before .before .before .loop .k) (omega (arith, c .before .before .loop-test .taken)) .1)
+
+-- the offset is a small number, and so is one by the pattern's width
+small : (c : tie.After-p Inv-loop μ-loop) →
+    let a = c .before .before .before .before .args in
+    let p = getD (now (a .first)) (getD (now (a .listed)) (c .before .before .before .loop .k) 0) 0 in
+    (p / a .width * a .columns ≤ 65025 * 255) × (p / a .width * a .width ≤ 65025 * 255) × (p % a .width < 256)
+small c = let o = c .before .before .before .before in
+    let a = o .args in
+    let s = place-stands (now (a .pattern)) _ (listed-symbol (now (a .pattern)) (now (a .listed)) (o .pre .4)
+    (c .before .before .before .loop .k) (omega (arith, c .before .before .loop-test .taken)) .1) in
+    let p = getD (now (a .first)) (getD (now (a .listed)) (c .before .before .before .loop .k) 0) 0 in
+    let l : p < 65025 = omega (arith, place-is c, s .0, o .pre .3) in (
+      offset-small p (a .columns) (a .width) l (o .pre .2) (o .pre .0),
+      offset-small p (a .width) (a .width) l (o .pre .1) (o .pre .0),
+      omega (arith, mod-lt p (o .pre .0), o .pre .1),
+    )
+
+-- there is an entry for it
+few : (c : tie.After-p Inv-loop μ-loop) → c .before .before .before .loop .k < 256
+few c =
+    let o = c .before .before .before .before in
+    omega (
+      arith,
+      c .before .before .loop-test .taken,
+      listed-few (now (o .args .pattern)) (now (o .args .listed))
+          (o .pre .4),
+    )
+
+loop-holds : tie.Need-loop-holds Inv-loop μ-loop
+loop-holds c = (omega arith, offsets-none _ _ _ _ _ (c .pre .6))
+
+shared-slice-read-symbol : tie.Need-shared-slice-read-symbol Inv-loop μ-loop
+shared-slice-read-symbol c = omega (arith, c .before .loop-test .taken)
+
+cast-symbol : tie.Need-cast-symbol Inv-loop μ-loop
+cast-symbol c = omega (arith, symbol-byte c)
+
+mul-p : tie.Need-mul-p Inv-loop μ-loop
+mul-p c = omega (arith, symbol-byte c)
+
+element-copy-out-p : tie.Need-element-copy-out-p Inv-loop μ-loop
+element-copy-out-p c = symbol-byte c
+
+div-offsets : tie.Need-div-offsets Inv-loop μ-loop
+div-offsets c = c .before .before .before .before .pre .0
+
+mul-offsets : tie.Need-mul-offsets Inv-loop μ-loop
+mul-offsets c = omega (arith, small c)
+
+rem-offsets : tie.Need-rem-offsets Inv-loop μ-loop
+rem-offsets c = c .before .before .before .before .pre .0
+
+add-offsets : tie.Need-add-offsets Inv-loop μ-loop
+add-offsets c = omega (arith, small c)
+
+mul-offsets-2 : tie.Need-mul-offsets-2 Inv-loop μ-loop
+mul-offsets-2 c = omega (arith, few c)
+
+element-write-offsets : tie.Need-element-write-offsets Inv-loop μ-loop
+element-write-offsets c = few c
+
+add-k : tie.Need-add-k Inv-loop μ-loop
+add-k c = omega (arith, few c)
+
+loop-less : tie.Need-loop-less Inv-loop μ-loop
+loop-less c = omega (arith, c .before .before .loop-test .taken)
+
+loop-again : tie.Need-loop-again Inv-loop μ-loop
+loop-again c = let o = c .before .before .before .before in
+    let a = o .args in
+    let l = c .before .before .before .loop in (
+      omega (arith, c .before .before .loop-test .taken),
+      offsets-more (now (a .pattern)) (a .columns) (a .width) (now (a .listed)) (l .offsets) (l .k) _ _ (l .inv .1)
+          (few c)
+          (place-is c) refl,
+    )
+
+returns : tie.Need-returns Inv-loop μ-loop
+returns c = let o = c .before .before in
+    let l = c .before .loop in offsets-all _ _ _ _ _ (l .k) (o .pre .4) (l .inv .1) (omega (arith, c .loop-test .left))
+
+pub list-offsets-spec : {M : Type 1} → statement M
+list-offsets-spec =
+    tie.close
+    (tie.spec
+    Inv-loop
+    μ-loop
+    loop-holds
+    shared-slice-read-symbol
+    cast-symbol
+    mul-p
+    element-copy-out-p
+    div-offsets
+    mul-offsets
+    rem-offsets
+    add-offsets
+    mul-offsets-2
+    element-write-offsets
+    add-k
+    loop-less
+    loop-again
+    returns)
