@@ -6,7 +6,7 @@ pub mod Links
 pub mod Steps
 pub mod Run
 pub mod Windows
-pub mod Unwanted
+pub mod Lone
 pub mod Laws
 use mathlib.Core.Path.{_≡_}
 use mathlib.Core.Bool.{Bool, true}

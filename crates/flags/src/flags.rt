@@ -13,6 +13,8 @@ ghost use Rattle.flags.specs.Flags.Strips.{flagOf, Ready};
 ghost use Rattle.flags.specs.Flags.Links.{RestKept};
 ghost use Rattle.flags.specs.Flags.Windows.{Own, StripFlagged};
 ghost use Rattle.sieve.specs.Pairs.{AlikePairs};
+use crate::lone::lone_flag;
+use crate::lone::lone_flags;
 use crate::run::next_flag;
 use grid::counts::distinct_counts;
 use grid::strips::Strip;
@@ -21,7 +23,8 @@ use reach::places::no_positions;
 use shapes::shapes::Shape;
 use sieve::pairs::alike_pairs;
 use sieve::pairs::no_offsets;
-use sieve::wanted::wanted;
+use sieve::wanted::first_wanted;
+use sieve::wanted::last_wanted;
 use sweep::own::own_ends;
 use sweep::own::own_rows;
 
@@ -70,23 +73,8 @@ fn flag_strip(
     }
 }
 
-// The flags of the windows at column left, where none of them matches.
-fn no_flags(s: Shape, left: usize, flags: &mut [u8])
-    requires { ⌜ ShapeOf s (s .rows * s .columns) × (left < across s) × (down s * across s ≤ length (now flags)) ⌝ }
-    ensures { λ r. ⌜
-        now (flags .exit) ≡ stored (λ k. 0) (λ top. top * across s + left) (down s) (now (flags .entry)) ⌝ }
-{
-    let across = s.columns + 1 - s.width;
-    let down = s.rows + 1 - s.height;
-    let mut top = 0;
-    while top < down {
-        flags[top * across + left] = 0;
-        top += 1;
-    }
-}
-
-// The flags of the windows at column left; where some window may match, the links buffer holds the strip's links
-// meanwhile.
+// The flags of the windows at column left. Where more than one of them may match, the links buffer holds the strip's
+// links meanwhile; where one may and no more, it is compared by itself.
 fn flag_column(
     text: &[u8],
     pattern: &[u8],
@@ -110,7 +98,7 @@ fn flag_column(
         (λ top. top * across s + left) (down s) (now (flags .entry)) ⌝ }
     ensures { λ r. ⌜ RestKept (s .rows * s .width) (now (links .entry)) (now (links .exit)) ⌝ }
 {
-    if !wanted(
+    let top = first_wanted(
         text,
         pattern,
         first,
@@ -120,8 +108,22 @@ fn flag_column(
         s,
         left,
         counts,
-    ) {
-        no_flags(s, left, flags);
+    );
+    let bottom = last_wanted(
+        text,
+        pattern,
+        first,
+        earlier,
+        later,
+        symbols,
+        s,
+        left,
+        counts,
+        top,
+    );
+    if bottom <= top {
+        let flag = lone_flag(text, pattern, first, s, left, top);
+        lone_flags(s, left, top, flag, flags);
         return;
     }
     strip_links(text, s.rows, s.columns, s.width, left, links);

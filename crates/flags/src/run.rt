@@ -102,7 +102,7 @@ fn next_window(
 }
 
 // The flag of a window of n positions whose first mismatch ends at end, which is n where it has none.
-fn flag_by(end: usize, n: usize) -> u8
+pub fn flag_by(end: usize, n: usize) -> u8
     ensures { λ r. ⌜ r ≡ pick (ltb end n) 0 1 ⌝ }
 {
     if end < n {

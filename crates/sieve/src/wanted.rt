@@ -1,12 +1,12 @@
-// Whether a strip needs links: not where no window of the right count agrees with the pattern in its pairs and its
-// first rows.
+// Which windows of a strip may match: those of the right count that agree with the pattern in its pairs and its first
+// rows. Where one may and no more, the strip needs no links.
 ghost use mathlib.Core.Path.{_≡_};
 ghost use mathlib.Core.Bool.{false};
-ghost use Prim.Native.Nat.{_*_, _≤_, _<_};
+ghost use Prim.Native.Nat.{_+_, _*_, _≤_, _<_};
 ghost use lib.ListN.{length};
 ghost use Rattle.shapes.specs.Shapes.{across, down};
 ghost use Rattle.sieve.specs.Pairs.{AlikePairs};
-ghost use Rattle.sieve.specs.Sieve.{Differs, StripDiffers, RowsAsked, firstRows};
+ghost use Rattle.sieve.specs.Sieve.{Differs, RowsTo, RowsFrom, RowsAsked, firstRows};
 use crate::pairs::pairs_alike;
 use grid::strips::Strip;
 use reach::places::no_positions;
@@ -62,8 +62,8 @@ fn may_match(
     r.place == (top + rows) * s.width
 }
 
-// Whether some window at column left may match: a strip without one needs no links.
-pub fn wanted(
+// The first row of the strip at column left whose window may match, or the number of its windows where none may.
+pub fn first_wanted(
     text: &[u8],
     pattern: &[u8],
     first: &[usize; 256],
@@ -73,12 +73,11 @@ pub fn wanted(
     s: Shape,
     left: usize,
     counts: &[u16],
-) -> bool
+) -> usize
     requires { ⌜
         RowsAsked (now text) (now pattern) (now first) (now earlier) (now later) s left
         × (down s * across s ≤ length (now counts)) ⌝ }
-    ensures { λ r. ⌜
-        (r ≡ false → StripDiffers (now (text .entry)) (now (pattern .entry)) s left symbols (now (counts .entry))) ⌝ }
+    ensures { λ r. ⌜ RowsTo (now (text .entry)) (now (pattern .entry)) s left symbols (now (counts .entry)) r ⌝ }
 {
     let across = s.columns + 1 - s.width;
     let down = s.rows + 1 - s.height;
@@ -97,9 +96,51 @@ pub fn wanted(
             left,
             top,
         ) {
-            return true;
+            return top;
         }
         top += 1;
     }
-    false
+    top
+}
+
+// The last row below top whose window may match, or top where none may.
+pub fn last_wanted(
+    text: &[u8],
+    pattern: &[u8],
+    first: &[usize; 256],
+    earlier: &[usize; 8],
+    later: &[usize; 8],
+    symbols: u16,
+    s: Shape,
+    left: usize,
+    counts: &[u16],
+    top: usize,
+) -> usize
+    requires { ⌜
+        RowsAsked (now text) (now pattern) (now first) (now earlier) (now later) s left
+        × (down s * across s ≤ length (now counts)) × (top ≤ down s) ⌝ }
+    ensures { λ r. ⌜
+        (top ≤ r) × RowsFrom (now (text .entry)) (now (pattern .entry)) s left symbols (now (counts .entry)) (r + 1) ⌝ }
+{
+    let across = s.columns + 1 - s.width;
+    let mut bottom = s.rows + 1 - s.height;
+    while top + 1 < bottom {
+        bottom -= 1;
+        let count = counts[bottom * across + left];
+        if may_match(
+            text,
+            pattern,
+            first,
+            earlier,
+            later,
+            symbols,
+            count,
+            s,
+            left,
+            bottom,
+        ) {
+            return bottom;
+        }
+    }
+    top
 }

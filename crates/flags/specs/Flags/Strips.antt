@@ -75,6 +75,27 @@ end-flag m w n =
     go c q p (holds h) = refl
     go c q p (fails h) = refl
 
+module _ (text pattern : List ℕ) (s : Shape) (left : ℕ) (shape : ShapeOf s (length text)) (strip : left < across s)
+    (size : length pattern ≡ s .height * s .width) (top : ℕ) where
+  answer-here : _≡_ {A = ℕ}
+      (pick (isMatch (answerOf (patternAt pattern) (windowAt text (s .columns) top left (s .width)) (length pattern))) 1 0)
+      (flagOf text pattern s (top * across s + left))
+  unfolding windowFlag
+  answer-here = rw (size, corner-row (across s) top left strip, corner-column (across s) top left strip)
+
+  -- the flag from the window's first end
+  pub end-flag-here : _≡_ {A = ℕ}
+      (pick
+      (ltb
+      (firstEnd (patternAt pattern) (suffix (stripAt text (s .columns) left (s .width)) (top * s .width)) (length pattern))
+      (length pattern)) 0 1)
+      (flagOf text pattern s (top * across s + left))
+  end-flag-here = rw same (end-flag _ _ (length pattern)) ∙ answer-here
+    where
+      same : suffix (stripAt text (s .columns) left (s .width)) (top * s .width)
+          ≡ windowAt text (s .columns) top left (s .width)
+      same = window-suffix text (stripFrom (s .rows) (s .columns) (s .width) left) top (omega arith)
+
 module _ (text pattern : List ℕ) (symbols : ℕ) (s : Shape) (left : ℕ) (counts : List ℕ)
     (shape : ShapeOf s (length text)) (strip : left < across s) (size : length pattern ≡ s .height * s .width)
     (symbols-is : symbols ≡ distinct pattern) (counts-are : CountsAre text s counts) (top : ℕ) (inside : top < down s)
@@ -88,11 +109,6 @@ module _ (text pattern : List ℕ) (symbols : ℕ) (s : Shape) (left : ℕ) (cou
   abbrev w : ℕ → ℕ
   w = windowAt text (s .columns) top left (s .width)
 
-  answer-here : _≡_ {A = ℕ} (pick (isMatch (answerOf m w (length pattern))) 1 0)
-      (flagOf text pattern s (top * across s + left))
-  unfolding windowFlag
-  answer-here = rw (size, corner-row (across s) top left strip, corner-column (across s) top left strip)
-
   -- document 004's flag, from the window's count and the strip's links
   pub strip-flag : flagBy m symbols count (λ p. link t (top * s .width + p)) (length pattern)
       ≡ flagOf text pattern s (top * across s + left)
@@ -104,7 +120,7 @@ module _ (text pattern : List ℕ) (symbols : ℕ) (s : Shape) (left : ℕ) (cou
       ∙ window-count text (s .columns) (s .height) (s .width) top left strip
       ∙ ap distinct cells)
       (λ e p k. refl)
-      ∙ answer-here
+      ∙ answer-here text pattern s left shape strip size top
     where
       cells : windowCells text (s .columns) top left (s .height) (s .width) ≡ table w (length pattern)
       cells = cells-table text (s .columns) top left (s .height) (s .width) ∙ ap (table w) (sym size)
@@ -114,11 +130,8 @@ module _ (text pattern : List ℕ) (symbols : ℕ) (s : Shape) (left : ℕ) (cou
       ≡ flagOf text pattern s (top * across s + left)
   end-strip-flag = go (eq-tested count symbols)
     where
-      same : suffix t (top * s .width) ≡ w
-      same = window-suffix text (stripFrom (s .rows) (s .columns) (s .width) left) top (omega arith)
-
       go : {b : Bool} → Tested (count ≡ symbols) b
           → flagByEnd pattern symbols count (suffix t (top * s .width))
           ≡ flagOf text pattern s (top * across s + left)
-      go (holds e) = by-end pattern symbols count _ e ∙ rw same (end-flag m w (length pattern)) ∙ answer-here
+      go (holds e) = by-end pattern symbols count _ e ∙ end-flag-here text pattern s left shape strip size top
       go (fails n) = by-count pattern symbols count _ n ∙ flag-unequal m symbols count _ (length pattern) n ∙ strip-flag

@@ -25,7 +25,7 @@ use Rattle.prefixes.specs.State.Laws.{swept-none}
 use Rattle.reach.specs.Reach.{ReachAt, Reached}
 use Rattle.reach.specs.Reach.Laws.{window-suffix}
 use Rattle.sieve.specs.Pairs.{offsetOf, PairAt, PairsInside, alikeAt, clear-alike, offset-at}
-use Rattle.sieve.specs.Sieve.{Differs, StripDiffers, RowsAsked, firstRows}
+use Rattle.sieve.specs.Sieve.{Differs, RowsTo, RowsFrom, StripAsked, RowsAsked, firstRows}
 
 -- a mismatch that ends in the first k positions ends in all n
 early : (m w : ℕ → ℕ) (n k f : ℕ) → f ≡ firstEnd m w k → f < k → k ≤ n → firstEnd m w n < n
@@ -36,33 +36,26 @@ early m w n k f e h l =
     let over : f < first (ends m w) n → ⊥ = λ x. true-false (a .hit h) (b .before f x) in
     omega arith
 
--- at least one row, and no more than there are
-pub rows-some : (height width : ℕ) → 0 < height → 0 < firstRows height width
-rows-some height width h = go (lt-tested (2 + 15 / width) height)
-  where
-    go : {b : Bool} → Tested (2 + 15 / width < height) b → 0 < pick b (2 + 15 / width) height
-    go (holds x) = omega arith
-    go (fails x) = h
-
-pub rows-fit : (height width : ℕ) → firstRows height width ≤ height
-rows-fit height width = go (lt-tested (2 + 15 / width) height)
+-- no more rows than there are
+pub rows-fit : (height width rows : ℕ) → rows ≡ firstRows height width → rows ≤ height
+rows-fit height width rows e = rw e (go (lt-tested (2 + 15 / width) height))
   where
     go : {b : Bool} → Tested (2 + 15 / width < height) b → pick b (2 + 15 / width) height ≤ height
     go (holds x) = omega arith
     go (fails x) = omega arith
 
--- ---- one window
+-- ---- the pairs of one window
 
 module _ (text pattern first earlier later : List ℕ) (s : Shape) (left top : ℕ)
     (asked : RowsAsked text pattern first earlier later s left) (inside : top < down s) where
   -- a position of the window lies in the text
   cell-in : (p : ℕ) → p < length pattern → top * s .columns + left + offsetOf (s .columns) (s .width) p < length text
   cell-in p h =
-      let v = asked .shape in
+      let v = asked .strip .shape in
       let some : 0 < s .width = omega arith in
-      let row : p / s .width < s .height = div-lt-iff-lt-mul some .1 (omega (arith, asked .size)) in
+      let row : p / s .width < s .height = div-lt-iff-lt-mul some .1 (omega (arith, asked .strip .size)) in
       let column : p % s .width < s .width = mod-lt p some in
-      let b = asked .beside in
+      let b = asked .strip .beside in
       omega (
         arith,
         inside,
@@ -74,17 +67,17 @@ module _ (text pattern first earlier later : List ℕ) (s : Shape) (left top : �
       )
     where
       wider : p / s .width < s .height → top + p / s .width + 1 ≤ s .rows
-      wider l = let v = asked .shape in omega (arith, inside)
+      wider l = let v = asked .strip .shape in omega (arith, inside)
 
   pub corner-small : top * s .columns + left ≤ 65280
   corner-small =
-      let v = asked .shape in
-      let b = asked .beside in
+      let v = asked .strip .shape in
+      let b = asked .strip .beside in
       omega (arith, inside, product-le top (s .columns) 255 255 (omega (arith, inside)) (omega arith))
 
   pub pairs-inside : PairsInside (length text) (top * s .columns + left) earlier later
   pairs-inside =
-      let v = asked .shape in
+      let v = asked .strip .shape in
       record {
         earlier-long = asked .pairs .earlier-long;
         later-long = asked .pairs .later-long;
@@ -106,7 +99,7 @@ module _ (text pattern first earlier later : List ℕ) (s : Shape) (left top : �
 
       w-at : (p : ℕ) → getD text (top * s .columns + left + offsetOf (s .columns) (s .width) p) 0 ≡ w p
       w-at p =
-          let v = asked .shape in
+          let v = asked .strip .shape in
           offset-at text (s .columns) top left (s .width) p
           ∙ ap (λ (f : ℕ → ℕ). f p)
           (sym (window-suffix text (stripFrom (s .rows) (s .columns) (s .width) left) top (omega arith)))
@@ -125,6 +118,10 @@ module _ (text pattern first earlier later : List ℕ) (s : Shape) (left top : �
       go (holds h) = h
       go (fails h) = absurd (says-false (every-tested _ 8 (λ i. eq-tested _ _)) e (alike (omega arith)))
 
+-- ---- the first rows of one window, and all of them
+
+module _ (text pattern first : List ℕ) (s : Shape) (left top : ℕ) (asked : StripAsked text pattern first s left)
+    (inside : top < down s) where
   strip-of : StripOf (stripFrom (s .rows) (s .columns) (s .width) left) (length text)
   strip-of =
       let v = asked .shape in
@@ -147,13 +144,7 @@ module _ (text pattern first earlier later : List ℕ) (s : Shape) (left top : �
         inside = omega (arith, z .fitting .width-le);
       }
 
-  module _ (rows : ℕ) (rows-is : rows ≡ firstRows (s .height) (s .width)) where
-    some : 0 < rows
-    some = let v = asked .shape in rw rows-is (rows-some (s .height) (s .width) (omega arith))
-
-    fit : rows ≤ s .height
-    fit = rw rows-is (rows-fit (s .height) (s .width))
-
+  module _ (rows : ℕ) (fit : rows ≤ s .height) where
     -- the pattern has so many rows
     cells-fit : rows * s .width ≤ length pattern
     cells-fit = omega (arith, mul-le-mul-right (s .width) fit, asked .size)
@@ -193,12 +184,8 @@ module _ (text pattern first earlier later : List ℕ) (s : Shape) (left top : �
 
 -- ---- window after window
 
--- the windows passed do not match
-pub record RowsTo (text pattern : List ℕ) (s : Shape) (left symbols : ℕ) (counts : List ℕ) (top : ℕ) : Type 0 where
-  pub top-le : top ≤ down s
-  pub differ : (k : ℕ) → k < top → getD counts (k * across s + left) 0 ≡ symbols → Differs text pattern s left k
-
 module _ (text pattern : List ℕ) (s : Shape) (left symbols : ℕ) (counts : List ℕ) where
+  -- from the top down: one window more does not match
   pub rows-none : RowsTo text pattern s left symbols counts 0
   rows-none = record { top-le = omega arith; differ = λ k h. absurd (none k h) }
     where
@@ -216,6 +203,23 @@ module _ (text pattern : List ℕ) (s : Shape) (left symbols : ℕ) (counts : Li
       go k h (holds d) x = rw d (told (ec ∙ rw d at x))
       go k h (fails d) x = here .differ k (omega arith) x
 
-  pub rows-all : (top : ℕ) → down s ≤ top → RowsTo text pattern s left symbols counts top
-      → StripDiffers text pattern s left symbols counts
-  rows-all top h here k i = here .differ k (omega arith)
+  -- and from the bottom up
+  pub below-none : (bottom : ℕ) → down s ≤ bottom → RowsFrom text pattern s left symbols counts bottom
+  below-none bottom h = record { differ = λ k a b. absurd (over k a b) }
+    where
+      over : (k : ℕ) → bottom ≤ k → k < down s → ⊥
+      over k a b = omega arith
+
+  pub below-more : (bottom count : ℕ) → count ≡ getD counts (bottom * across s + left) 0
+      → (count ≡ symbols → Differs text pattern s left bottom) → RowsFrom text pattern s left symbols counts (bottom + 1)
+      → RowsFrom text pattern s left symbols counts bottom
+  below-more bottom count ec told here = record { differ = λ k a b. go k a b (eq-tested k bottom) }
+    where
+      go : (k : ℕ) {t : Bool} → bottom ≤ k → k < down s → Tested (k ≡ bottom) t
+          → getD counts (k * across s + left) 0 ≡ symbols → Differs text pattern s left k
+      go k a b (holds d) x = rw d (told (ec ∙ rw d at x))
+      go k a b (fails d) x = here .differ k (omega arith) b x
+
+  pub below-less : (bottom lower : ℕ) → bottom ≤ lower → RowsFrom text pattern s left symbols counts bottom
+      → RowsFrom text pattern s left symbols counts lower
+  below-less bottom lower h here = record { differ = λ k a b. here .differ k (omega arith) b }

@@ -1,35 +1,58 @@
--- `flags::flag_column` meets its contract: where no window may match none does (`strip-none`); else the counts and the
--- links are the text's, so what is written is the flag of each window.
+-- `flags::flag_column` meets its contract: where one window at most may match, its own flag and 0 for the others are
+-- the strip's flags (`strip-lone`); else the counts and the links are the text's, so what is written is the flag of
+-- each window.
 -- Assumes nothing.
 use mathlib.Core.Path.{refl}
+use native.Mathlib.Omega.{arith}
 use denote.Ref.{now}
-use borrow.Author.Tests.{not-true}
 use Rattle.shapes.specs.Said.Laws.{same-buffer}
 use Rattle.flags.specs.Flags.Links.{kept-same, strip-links-written, strip-links-kept}
-use Rattle.flags.specs.Flags.Unwanted.{strip-none}
+use Rattle.sieve.specs.Sieve.{RowsAsked}
+use Rattle.flags.specs.Flags.Lone.{strip-lone}
 use borrow.Author.Needs.{needs}
 use Rattle.flags.proofs.flags.flag_column.Statement.{statement}
 use Rattle.flags.proofs.flags.flag_column.Tie as tie
 
-wanted-requires : tie.Need-wanted-requires
-wanted-requires c κs = search needs
+-- what the test of the strip asks
+asks : (o : tie.Start) → let a = o .args in
+    RowsAsked (now (a .text)) (now (a .pattern)) (now (a .first)) (now (a .earlier)) (now (a .later)) (a .s) (a .left)
+asks o =
+    let r = o .pre .0 .room in
+    record {
+      strip = record { shape = r .shape; size = r .size; beside = o .pre .1; places = o .pre .2 .places };
+      pairs = o .pre .3;
+    }
 
-no-flags-requires : tie.Need-no-flags-requires
-no-flags-requires c κs = search needs
+first-wanted-requires : tie.Need-first-wanted-requires
+first-wanted-requires c κs = let o = c .before .before .before .before .before in (asks o, o .pre .0 .room .counts-room)
+
+last-wanted-requires : tie.Need-last-wanted-requires
+last-wanted-requires c κs = let o = c .before .before .before .before .before .before in (asks o, o .pre .0 .room .counts-room, c .first-wanted .ensures .top-le)
+
+lone-flag-requires : tie.Need-lone-flag-requires
+lone-flag-requires c κs = let o = c .before .before .before .before .before .before .before .before in (asks o .strip, c .before .before .first-wanted .ensures .top-le)
+
+lone-flags-requires : tie.Need-lone-flags-requires
+lone-flags-requires c κs =
+    let o = c .before .before .before .before .before .before .before .before .before .before in (
+      record { sized = o .pre .0 .room .shape .sized; cells-is = refl },
+      o .pre .1,
+      c .before .before .before .before .first-wanted .ensures .top-le,
+      search needs,
+    )
 
 same-length : tie.Need-same-length
 same-length c = search needs
 
 returns : tie.Need-returns
 returns c =
-    let o = c .before .before .before .before .before .before .before .before .before .before .before in
+    let o = c .before .before .before .before .before .before .before .before .before .before .before .before .before in
     let r = o .pre .0 in
     let a = o .args in (
-      strip-none (now (a .text)) (now (a .pattern)) (a .symbols) (a .s) (a .left) (now (a .counts)) (r .room .shape)
-          (o .pre .1) (r .room .size) (r .symbols-is) (r .counts-are)
-          (c .before .before .before .before .before .wanted .ensures
-          (not-true _ (c .before .before .before .before .if1 .taken))) (now (a .flags)) _
-          (c .before .before .no-flags .ensures),
+      strip-lone (now (a .text)) (now (a .pattern)) (a .symbols) (a .s) (a .left) (now (a .counts)) (r .room .shape)
+          (o .pre .1) (r .room .size) (r .symbols-is) (r .counts-are) _ _ _ (c .before .before .before .before .before .before .before .first-wanted .ensures)
+          (c .before .before .before .before .before .before .last-wanted .ensures .1) (omega (arith, c .before .before .before .before .before .if1 .taken)) (c .before .before .before .before .lone-flag .ensures)
+          (now (a .flags)) _ (c .before .before .lone-flags .ensures),
       kept-same _ _,
     )
 
@@ -38,7 +61,7 @@ strip-links-requires c κs = search needs
 
 flag-strip-requires : tie.Need-flag-strip-requires
 flag-strip-requires c κs =
-    let o = c .before .before .before .before .before .before .before .before .before .before .before .before .before in
+    let o = c .before .before .before .before .before .before .before .before .before .before .before .before .before .before in
     let r = o .pre .0 .room in (
       record {
         shape = record { sized = r .shape .sized; cells-is = refl };
@@ -59,8 +82,7 @@ same-length-3 c = search needs
 
 returns-2 : tie.Need-returns-2
 returns-2 c =
-    let o = c .before .before .before .before .before .before .before .before .before .before .before .before .before
-    .before .before .before in
+    let o = c .before .before .before .before .before .before .before .before .before .before .before .before .before .before .before .before .before in
     let r = o .pre .0 in
     let a = o .args in
     let e = same-buffer (c .before .before .before .before .before .before .before .strip-links .ensures) in (
@@ -80,8 +102,10 @@ pub flag-column-spec : {M : Type 1} → statement M
 flag-column-spec =
     tie.close
     (tie.spec
-    wanted-requires
-    no-flags-requires
+    first-wanted-requires
+    last-wanted-requires
+    lone-flag-requires
+    lone-flags-requires
     same-length
     returns
     strip-links-requires

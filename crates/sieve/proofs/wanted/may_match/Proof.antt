@@ -7,7 +7,7 @@ use native.Mathlib.Omega.{arith}
 use borrow.Author.Tests.{not-true}
 use lib.ListN.{length}
 use denote.Ref.{now}
-use Rattle.sieve.specs.Sieve.Laws.{corner-small, pairs-inside, pairs-differ, rows-ask, rows-down, rows-small, rows-told}
+use Rattle.sieve.specs.Sieve.Laws.{corner-small, pairs-inside, pairs-differ, rows-ask, rows-down, rows-small, rows-told, rows-fit}
 use borrow.Author.Needs.{needs}
 use Rattle.sieve.proofs.wanted.may_match.Statement.{statement}
 use Rattle.sieve.proofs.wanted.may_match.Tie as tie
@@ -43,22 +43,22 @@ no-positions-requires c κs = search needs
 reach-requires : tie.Need-reach-requires
 reach-requires c κs =
     let o = c .before .before .before .before .before .before .before .before .before in
-    rows-ask _ _ _ _ _ _ _ _ (o .pre .0) (o .pre .1) _ (c .before .before .first-rows .ensures) _ (c .before .no-positions .ensures)
+    rows-ask _ _ _ _ _ _ (o .pre .0 .strip) (o .pre .1) _ (rows-fit _ _ _ (c .before .before .first-rows .ensures)) _ (c .before .no-positions .ensures)
 
 add-result : tie.Need-add-result
 add-result c =
     let o = c .before .before .before .before .before .before .before .before .before .before in
-    omega (arith, o .pre .0 .shape, rows-down _ _ _ _ _ _ _ _ (o .pre .0) (o .pre .1) _ (c .before .before .before .first-rows .ensures))
+    omega (arith, o .pre .0 .strip .shape, rows-down _ _ _ _ _ _ (o .pre .0 .strip) (o .pre .1) _ (rows-fit _ _ _ (c .before .before .before .first-rows .ensures)))
 
 mul-result : tie.Need-mul-result
 mul-result c =
     let o = c .before .before .before .before .before .before .before .before .before .before .before in
-    omega (arith, rows-small _ _ _ _ _ _ _ _ (o .pre .0) (o .pre .1) _ (c .before .before .before .before .first-rows .ensures))
+    omega (arith, rows-small _ _ _ _ _ _ (o .pre .0 .strip) (o .pre .1) _ (rows-fit _ _ _ (c .before .before .before .before .first-rows .ensures)))
 
 returns-3 : tie.Need-returns-3
 returns-3 c =
     let o = c .before .before .before .before .before .before .before .before .before .before .before .before in
-    λ e _. rows-told _ _ _ _ _ _ _ _ (o .pre .0) (o .pre .1) _ (c .before .before .before .before .before .first-rows .ensures) _ _ _ (c .before .before .reach .ensures) e
+    λ e _. rows-told _ _ _ _ _ _ (o .pre .0 .strip) (o .pre .1) _ (rows-fit _ _ _ (c .before .before .before .before .before .first-rows .ensures)) _ _ _ (c .before .before .reach .ensures) e
 
 pub may-match-spec : {M : Type 1} → statement M
 may-match-spec =
