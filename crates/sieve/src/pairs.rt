@@ -1,7 +1,7 @@
 // Eight pairs of cells that are alike in the pattern. A window in which the cells of one of them are not alike does not
 // match, whatever else stands in it; on a random text nearly every window is told by them.
 ghost use mathlib.Core.Path.{_≡_};
-ghost use Prim.Native.Nat.{_≤_, _<_};
+ghost use Prim.Native.Nat.{_+_, _≤_, _<_};
 ghost use lib.ListN.{length, getD, replicate};
 ghost use Rattle.theory.specs.First.{every};
 ghost use Rattle.prefixes.specs.State.{FirstPlaces};
@@ -55,17 +55,25 @@ pub fn alike_pairs(
     }
 }
 
-// Whether the cells of every pair are alike in the window at that corner. All eight are looked at: what is added up
-// needs no branch, and where it would go no machine can foresee.
-pub fn pairs_alike(text: &[u8], corner: usize, earlier: &[usize; 8], later: &[usize; 8]) -> bool
-    requires { ⌜ PairsInside (length (now text)) corner (now earlier) (now later) ⌝ }
+// Whether the cells of four pairs, those from pair from on, are alike in the window at that corner. All four are looked
+// at: what is added up needs no branch, and where it would go no machine can foresee. Nearly every window of a random
+// text is told by the first four.
+pub fn pairs_alike(
+    text: &[u8],
+    corner: usize,
+    earlier: &[usize; 8],
+    later: &[usize; 8],
+    from: usize,
+) -> bool
+    requires { ⌜ PairsInside (length (now text)) corner (now earlier) (now later) × (from ≤ 4) ⌝ }
     ensures { λ r. ⌜
-        r ≡ every (alikeAt (now (text .entry)) corner (now (earlier .entry)) (now (later .entry))) 8 ⌝ }
+        r ≡ every (λ i. alikeAt (now (text .entry)) corner (now (earlier .entry)) (now (later .entry)) (from + i)) 4 ⌝ }
 {
     let mut unlike = 0u32;
     let mut i = 0;
-    while i < 8 {
-        if text[corner + earlier[i]] != text[corner + later[i]] {
+    while i < 4 {
+        let k = from + i;
+        if text[corner + earlier[k]] != text[corner + later[k]] {
             unlike += 1;
         }
         i += 1;

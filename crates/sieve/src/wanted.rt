@@ -47,7 +47,11 @@ fn may_match(
     if count != symbols {
         return false;
     }
-    if !pairs_alike(text, top * s.columns + left, earlier, later) {
+    let corner = top * s.columns + left;
+    if !pairs_alike(text, corner, earlier, later, 0) {
+        return false;
+    }
+    if !pairs_alike(text, corner, earlier, later, 4) {
         return false;
     }
     let t = Strip {

@@ -87,9 +87,10 @@ module _ (text pattern first earlier later : List ℕ) (s : Shape) (left top : �
       }
 
   -- a pair whose cells are not alike in the window
-  pub pairs-differ : every (alikeAt text (top * s .columns + left) earlier later) 8 ≡ false
+  pub pairs-differ : (from : ℕ) → from ≤ 4
+      → every (λ i. alikeAt text (top * s .columns + left) earlier later (from + i)) 4 ≡ false
       → Differs text pattern s left top
-  pairs-differ e = go (lt-tested (firstEnd m w (length pattern)) (length pattern))
+  pairs-differ from few e = go (lt-tested (firstEnd m w (length pattern)) (length pattern))
     where
       m : ℕ → ℕ
       m = λ k. getD pattern k 0
@@ -116,7 +117,9 @@ module _ (text pattern first earlier later : List ℕ) (s : Shape) (left top : �
       go : {b : Bool} → Tested (firstEnd m w (length pattern) < length pattern) b
           → firstEnd m w (length pattern) < length pattern
       go (holds h) = h
-      go (fails h) = absurd (says-false (every-tested _ 8 (λ i. eq-tested _ _)) e (alike (omega arith)))
+      go (fails h) =
+          absurd
+          (says-false (every-tested _ 4 (λ i. eq-tested _ _)) e (λ i l. alike (omega arith) (from + i) (omega arith)))
 
 -- ---- the first rows of one window, and all of them
 

@@ -5,7 +5,7 @@ use mathlib.Core.Path.{_≡_, refl, _∙_, ap}
 use mathlib.Core.Bool.{Bool, not}
 use mathlib.Core.List.{List}
 use mathlib.Core.Logic.{⊎-elim}
-use Prim.Native.Nat.{ℕ, _+_, _-_, _≤_}
+use Prim.Native.Nat.{ℕ, _+_, _-_, _≤_, _<_}
 use native.Mathlib.Omega.{arith}
 use lib.Dec.{eqb}
 use denote.Ref.{now}
@@ -17,38 +17,45 @@ use Rattle.sieve.proofs.pairs.pairs_alike.Statement.{statement}
 use Rattle.sieve.proofs.pairs.pairs_alike.Tie as tie
 
 abbrev Inv-loop : tie.InvT-loop
-Inv-loop text corner earlier later unlike₀ i₀ unlike i =
-    (i ≤ 8) × (unlike ≡ count (λ k. not (alikeAt text corner earlier later k)) i)
+Inv-loop text corner earlier later from unlike₀ i₀ unlike i =
+    (i ≤ 4) × (unlike ≡ count (λ j. not (alikeAt text corner earlier later (from + j))) i)
 
 abbrev μ-loop : tie.MeasureT-loop
-μ-loop text corner earlier later unlike₀ i₀ unlike i = 8 - i
+μ-loop text corner earlier later from unlike₀ i₀ unlike i = 4 - i
+
+-- there are eight pairs
+inside : (c : tie.In-loop Inv-loop μ-loop) → c .before .before .args .from + c .before .loop .i < 8
+inside c = omega (arith, c .loop-test .taken, c .before .before .pre .1)
 
 loop-holds : tie.Need-loop-holds Inv-loop μ-loop
 loop-holds c = (omega arith, count-zero _)
 
+add-k : tie.Need-add-k Inv-loop μ-loop
+add-k c = omega (arith, c .loop-test .taken, c .before .before .pre .1)
+
 mul-if1 : tie.Need-mul-if1 Inv-loop μ-loop
-mul-if1 c = omega (arith, c .loop-test .taken)
+mul-if1 c = omega (arith, c .loop-test .taken, c .before .before .pre .1)
 
 element-copy-out-if1 : tie.Need-element-copy-out-if1 Inv-loop μ-loop
-element-copy-out-if1 c = c .loop-test .taken
+element-copy-out-if1 c = inside c
 
 add-if1 : tie.Need-add-if1 Inv-loop μ-loop
-add-if1 c = let i = c .before in omega (arith, i .before .before .pre .small, i .before .before .pre .earlier-in _ (i .loop-test .taken))
+add-if1 c = let i = c .before in omega (arith, i .before .before .pre .0 .small, i .before .before .pre .0 .earlier-in _ (inside i))
 
 shared-slice-read-if1 : tie.Need-shared-slice-read-if1 Inv-loop μ-loop
-shared-slice-read-if1 c = let i = c .before .before in i .before .before .pre .earlier-in _ (i .loop-test .taken)
+shared-slice-read-if1 c = let i = c .before .before in i .before .before .pre .0 .earlier-in _ (inside i)
 
 mul-if1-2 : tie.Need-mul-if1-2 Inv-loop μ-loop
-mul-if1-2 c = omega (arith, c .before .before .loop-test .taken)
+mul-if1-2 c = omega (arith, inside (c .before .before))
 
 element-copy-out-if1-2 : tie.Need-element-copy-out-if1-2 Inv-loop μ-loop
-element-copy-out-if1-2 c = c .before .before .loop-test .taken
+element-copy-out-if1-2 c = inside (c .before .before)
 
 add-if1-2 : tie.Need-add-if1-2 Inv-loop μ-loop
-add-if1-2 c = let i = c .before .before .before in omega (arith, i .before .before .pre .small, i .before .before .pre .later-in _ (i .loop-test .taken))
+add-if1-2 c = let i = c .before .before .before in omega (arith, i .before .before .pre .0 .small, i .before .before .pre .0 .later-in _ (inside i))
 
 shared-slice-read-if1-2 : tie.Need-shared-slice-read-if1-2 Inv-loop μ-loop
-shared-slice-read-if1-2 c = let i = c .before .before .before .before in i .before .before .pre .later-in _ (i .loop-test .taken)
+shared-slice-read-if1-2 c = let i = c .before .before .before .before in i .before .before .pre .0 .later-in _ (inside i)
 
 add-unlike : tie.Need-add-unlike Inv-loop μ-loop
 add-unlike c =
@@ -58,7 +65,7 @@ add-unlike c =
       arith,
       l .inv .1,
       l .inv .0,
-      count-le (λ k. not (alikeAt (now (a .text)) (a .corner) (now (a .earlier)) (now (a .later)) k)) (l .i),
+      count-le (λ k. not (alikeAt (now (a .text)) (a .corner) (now (a .earlier)) (now (a .later)) (a .from + k))) (l .i),
     )
 
 add-i : tie.Need-add-i Inv-loop μ-loop
@@ -80,8 +87,8 @@ loop-again c =
 returns : tie.Need-returns Inv-loop μ-loop
 returns c =
     let l = c .before .loop in
-    let all : l .i ≡ 8 = omega (arith, c .loop-test .left, l .inv .0) in
-    ap (λ (n : ℕ). eqb n 0) (l .inv .1 ∙ ap (count _) all) ∙ count-every _ 8
+    let all : l .i ≡ 4 = omega (arith, c .loop-test .left, l .inv .0) in
+    ap (λ (n : ℕ). eqb n 0) (l .inv .1 ∙ ap (count _) all) ∙ count-every _ 4
 
 pub pairs-alike-spec : {M : Type 1} → statement M
 pairs-alike-spec =
@@ -90,6 +97,7 @@ pairs-alike-spec =
     Inv-loop
     μ-loop
     loop-holds
+    add-k
     mul-if1
     element-copy-out-if1
     add-if1

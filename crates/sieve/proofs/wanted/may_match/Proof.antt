@@ -2,7 +2,7 @@
 -- that does not agree each say that a mismatch ends in the window.
 -- Assumes nothing.
 use mathlib.Core.Path.{_∙_, sym}
-use Prim.Native.Nat.{_+_, _*_, _<_}
+use Prim.Native.Nat.{_+_, _*_, _≤_, _<_}
 use native.Mathlib.Omega.{arith}
 use borrow.Author.Tests.{not-true}
 use lib.ListN.{length}
@@ -17,22 +17,33 @@ use Rattle.reach.proofs.reach.reach.Reads as reach-reads
 returns : tie.Need-returns
 returns c = search needs
 
-mul-pairs-alike : tie.Need-mul-pairs-alike
-mul-pairs-alike c =
+mul-corner : tie.Need-mul-corner
+mul-corner c =
     let o = c .before .before .before .before in omega (arith, corner-small _ _ _ _ _ _ _ _ (o .pre .0) (o .pre .1))
 
-add-pairs-alike : tie.Need-add-pairs-alike
-add-pairs-alike c =
+add-corner : tie.Need-add-corner
+add-corner c =
     let o = c .before .before .before .before in omega (arith, corner-small _ _ _ _ _ _ _ _ (o .pre .0) (o .pre .1))
 
 pairs-alike-requires : tie.Need-pairs-alike-requires
-pairs-alike-requires c κs = let o = c .before .before .before .before in pairs-inside _ _ _ _ _ _ _ _ (o .pre .0) (o .pre .1)
+pairs-alike-requires c κs =
+    let o = c .before .before .before .before in (pairs-inside _ _ _ _ _ _ _ _ (o .pre .0) (o .pre .1), omega arith)
 
 returns-2 : tie.Need-returns-2
 returns-2 c =
     let o = c .before .before .before .before .before .before in
-    λ _ _. pairs-differ _ _ _ _ _ _ _ _ (o .pre .0) (o .pre .1)
+    λ _ _. pairs-differ _ _ _ _ _ _ _ _ (o .pre .0) (o .pre .1) 0 (omega arith)
     (sym (c .before .pairs-alike .ensures) ∙ not-true _ (c .if2 .taken))
+
+pairs-alike-requires-2 : tie.Need-pairs-alike-requires-2
+pairs-alike-requires-2 c κs =
+    let o = c .before .before .before .before .before .before in (pairs-inside _ _ _ _ _ _ _ _ (o .pre .0) (o .pre .1), omega arith)
+
+returns-3 : tie.Need-returns-3
+returns-3 c =
+    let o = c .before .before .before .before .before .before .before .before in
+    λ _ _. pairs-differ _ _ _ _ _ _ _ _ (o .pre .0) (o .pre .1) 4 (omega arith)
+    (sym (c .before .pairs-alike2 .ensures) ∙ not-true _ (c .if3 .taken))
 
 first-rows-requires : tie.Need-first-rows-requires
 first-rows-requires c κs = search needs
@@ -40,38 +51,46 @@ first-rows-requires c κs = search needs
 no-positions-requires : tie.Need-no-positions-requires
 no-positions-requires c κs = search needs
 
+-- so many rows fit
+fit : (c : tie.After-first-rows) → c .first-rows .result ≤ c .before .before .before .before .before .before .before .before .before .args .s .height
+fit c = rows-fit _ _ _ (c .first-rows .ensures)
+
 reach-requires : tie.Need-reach-requires
 reach-requires c κs =
-    let o = c .before .before .before .before .before .before .before .before .before in
-    rows-ask _ _ _ _ _ _ (o .pre .0 .strip) (o .pre .1) _ (rows-fit _ _ _ (c .before .before .first-rows .ensures)) _ (c .before .no-positions .ensures)
+    let o = c .before .before .before .before .before .before .before .before .before .before .before in
+    rows-ask _ _ _ _ _ _ (o .pre .0 .strip) (o .pre .1) _ (fit (c .before .before)) _ (c .before .no-positions .ensures)
 
 add-result : tie.Need-add-result
 add-result c =
-    let o = c .before .before .before .before .before .before .before .before .before .before in
-    omega (arith, o .pre .0 .strip .shape, rows-down _ _ _ _ _ _ (o .pre .0 .strip) (o .pre .1) _ (rows-fit _ _ _ (c .before .before .before .first-rows .ensures)))
+    let o = c .before .before .before .before .before .before .before .before .before .before .before .before in
+    let f = fit (c .before .before .before) in
+    omega (arith, o .pre .0 .strip .shape, rows-down _ _ _ _ _ _ (o .pre .0 .strip) (o .pre .1) _ f)
 
 mul-result : tie.Need-mul-result
 mul-result c =
-    let o = c .before .before .before .before .before .before .before .before .before .before .before in
-    omega (arith, rows-small _ _ _ _ _ _ (o .pre .0 .strip) (o .pre .1) _ (rows-fit _ _ _ (c .before .before .before .before .first-rows .ensures)))
+    let o = c .before .before .before .before .before .before .before .before .before .before .before .before .before in
+    omega (arith, rows-small _ _ _ _ _ _ (o .pre .0 .strip) (o .pre .1) _ (fit (c .before .before .before .before)))
 
-returns-3 : tie.Need-returns-3
-returns-3 c =
-    let o = c .before .before .before .before .before .before .before .before .before .before .before .before in
-    λ e _. rows-told _ _ _ _ _ _ (o .pre .0 .strip) (o .pre .1) _ (rows-fit _ _ _ (c .before .before .before .before .before .first-rows .ensures)) _ _ _ (c .before .before .reach .ensures) e
+returns-4 : tie.Need-returns-4
+returns-4 c =
+    let o = c .before .before .before .before .before .before .before .before .before .before .before .before .before .before in
+    λ e _. rows-told _ _ _ _ _ _ (o .pre .0 .strip) (o .pre .1) _ (fit (c .before .before .before .before .before)) _ _ _
+    (c .before .before .reach .ensures) e
 
 pub may-match-spec : {M : Type 1} → statement M
 may-match-spec =
     tie.close
     (tie.spec
     returns
-    mul-pairs-alike
-    add-pairs-alike
+    mul-corner
+    add-corner
     pairs-alike-requires
     returns-2
+    pairs-alike-requires-2
+    returns-3
     first-rows-requires
     no-positions-requires
     reach-requires
     add-result
     mul-result
-    returns-3)
+    returns-4)
