@@ -4,7 +4,7 @@ ghost use Prim.Native.Nat.{_<_};
 ghost use lib.Dec.{ltb};
 ghost use lib.ListN.{length};
 ghost use Rattle.theory.specs.Test.{pick};
-ghost use Rattle.flags.specs.Flags.Run.{linkedAt, CompareAt, EndsBy, WindowAsked, WindowEnds, WindowMarked};
+ghost use Rattle.flags.specs.Flags.Run.{linkedAt, CompareAt, EndsBy, WindowAsked, WindowEnds, WindowFlagged};
 use reach::places::pattern_at;
 
 // Where a run down a strip stands behind a window: the last window that was compared begins at row, and agrees up to
@@ -16,7 +16,7 @@ pub struct Run {
 }
 
 // The same with the window's flag. A window of another count is passed by, so it has no end.
-pub struct Marked {
+pub struct RunFlag {
     pub row: usize,
     pub reached: usize,
     pub flag: u8,
@@ -63,7 +63,7 @@ fn linked_end(
 
 // The window at row top, where the last one that was compared begins at row and agrees up to reached: its end is the
 // pattern's own where that lies in what agreed, and else what agreed of that one agrees of this one too.
-fn next_window(
+fn next_linked(
     pattern: &[u8],
     first: &[usize; 256],
     selves: &[usize; 256],
@@ -123,20 +123,20 @@ pub fn next_flag(
     row: usize,
     reached: usize,
     top: usize,
-) -> Marked
+) -> RunFlag
     requires { ⌜ WindowAsked (now pattern) (now first) (now selves) (now links) width row reached top ⌝ }
     ensures { λ r. ⌜
-        WindowMarked (now (pattern .entry)) symbols count (now (links .entry)) width row reached top r ⌝ }
+        WindowFlagged (now (pattern .entry)) symbols count (now (links .entry)) width row reached top r ⌝ }
 {
     if count != symbols {
-        return Marked {
+        return RunFlag {
             row,
             reached,
             flag: 0,
         };
     }
-    let r = next_window(pattern, first, selves, links, width, row, reached, top);
-    Marked {
+    let r = next_linked(pattern, first, selves, links, width, row, reached, top);
+    RunFlag {
         row: r.row,
         reached: r.reached,
         flag: flag_by(r.end, pattern.len()),

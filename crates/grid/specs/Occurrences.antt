@@ -22,8 +22,8 @@ pub record Tracks (o : Occurrences) (xs : List ℕ) : Type 0 where
   pub each : (v : ℕ) → v < 256 → getD (o .counts) v 0 ≡ occurs v xs
   pub size-is : o .size ≡ distinct xs
 
--- o tracks a list that has room for n more symbols. No window has more than 65,025 cells, nor one row more than 65,280,
--- so every count fits 16 bits.
+-- o tracks a list that has room for n more symbols. No window has more than 65,025 cells, and none with one row more
+-- has over 65,280, so every count fits 16 bits.
 abbrev pub RoomToAdd : Occurrences → ℕ → Type 0
 RoomToAdd o n = (xs : List ℕ) × Tracks o xs × (length xs + n ≤ 65535)
 

@@ -1,5 +1,5 @@
 // The number of different symbols in each window of a text. The occurrences of each symbol slide down a strip, one row
-// in and one row out for each window, and begin afresh in the next strip.
+// out and one row in for each window, and begin afresh in the next strip.
 ghost use mathlib.Core.Path.{_≡_};
 ghost use mathlib.Core.Bool.{true};
 ghost use mathlib.Core.List.{[], _∷_};
@@ -55,7 +55,8 @@ fn remove_symbol(occurrences: &mut [u32; 256], size: u32, v: u8) -> u32
     if old == 1 { size - 1 } else { size }
 }
 
-// A row's symbols enter, two in a round, of which i is the second: so the round has one sum and one test besides.
+// A row's symbols enter, two in a round, so that two of them share what the loop itself costs; i is the second of them,
+// and a row of odd length has one left over.
 fn add_row(occurrences: &mut [u32; 256], size: u32, row: &[u8]) -> u32
     requires { ⌜ RoomToAdd (occurrencesOf (now occurrences) size) (length (now row)) ⌝ }
     ensures { λ r. ⌜

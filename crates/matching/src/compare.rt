@@ -29,7 +29,7 @@ use shapes::windows::WindowPlace;
 use view::window_row;
 use view::window_symbol;
 
-// What is asked of a window.
+// What is answered of a window.
 pub enum Verdict {
     Match,
     // Two cells, by position row by row in the pattern, that are alike on one side only.

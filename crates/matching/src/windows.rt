@@ -5,7 +5,7 @@ ghost use Rattle.shapes.specs.Shapes.{corners};
 ghost use Rattle.matching.specs.Windows.{windowPlace};
 use shapes::windows::WindowPlace;
 
-// The window after v, row by row of corners. No number of a window is divided.
+// The window after v, row by row of corners: from the one before it, so that its corner costs no division.
 pub fn next_window(v: WindowPlace, across: usize) -> WindowPlace
     requires { ⌜ (across ≡ corners (v .columns) (v .width)) × (0 < across) × (v .column < across) × (v .row < 65025) ⌝ }
     ensures { λ r. ⌜

@@ -38,6 +38,10 @@ rowCells text rowWidth row column width = take width (drop (row * rowWidth + col
 pub stripAt : List ℕ → ℕ → ℕ → ℕ → ℕ → ℕ
 stripAt text rowWidth column width = windowAt text rowWidth 0 column width
 
+-- how far behind a window's corner its position p lies in a text of that many columns: the same for every window
+abbrev pub offsetOf : ℕ → ℕ → ℕ → ℕ
+offsetOf columns width p = p / width * columns + p % width
+
 -- a read as a number: 256 past the end
 abbrev pub cellNumber : Cell → ℕ
 cellNumber (Symbol v) = v

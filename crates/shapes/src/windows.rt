@@ -1,7 +1,8 @@
 // A window of a text is read in place, through its corner and the text's row width. Sides and corners are bytes: none
 // is above 255.
 ghost use mathlib.Core.Path.{_≡_};
-ghost use Rattle.shapes.specs.Windows.{cellOf, rowCells};
+ghost use Prim.Native.Nat.{_≤_, _<_};
+ghost use Rattle.shapes.specs.Windows.{cellOf, rowCells, offsetOf};
 
 // What is read at a place: a symbol, or nothing past the text's end.
 pub enum Cell {
@@ -16,6 +17,14 @@ pub struct WindowPlace {
     pub column: usize,
     pub height: usize,
     pub width: usize,
+}
+
+// How far behind a window's corner its position p lies in the text.
+pub fn cell_offset(columns: usize, width: usize, p: usize) -> usize
+    requires { ⌜ (0 < width) × (columns ≤ 255) × (p ≤ 65025) ⌝ }
+    ensures { λ r. ⌜ r ≡ offsetOf columns width p ⌝ }
+{
+    p / width * columns + p % width
 }
 
 // The symbol in cell (i, j) of the window whose corner is (row, column).

@@ -21,13 +21,8 @@ use Rattle.theory.specs.Count.Laws.{count-none, members-all, length-members}
 use Rattle.theory.specs.Older.Laws.{zeros-at}
 use Rattle.theory.specs.Match.{ends, firstEnd}
 use Rattle.theory.specs.Match.Even.{Even, even-if}
-use Rattle.shapes.specs.Windows.{windowAt}
-use Rattle.shapes.specs.Windows.Laws.{window-at}
+use Rattle.shapes.specs.Windows.{offsetOf}
 use Rattle.prefixes.specs.State.{FirstPlaces}
-
--- how far behind a window's corner its position p lies in the text
-abbrev pub offsetOf : ℕ → ℕ → ℕ → ℕ
-offsetOf columns width p = p / width * columns + p % width
 
 -- x and y are the offsets of two positions of the pattern with the same symbol
 pub record PairAt (pattern : List ℕ) (columns width x y : ℕ) : Type 0 where
@@ -119,39 +114,6 @@ module _ (pattern : List ℕ) (columns width : ℕ) where
       go i l (fails d) =
           rw (getD-set-other earlier n i x 0 d, getD-set-other later n i y 0 d) (old .each i l)
 
--- ---- counting
-
--- no number yet, and one more
-pub count-zero : (P : ℕ → Bool) → 0 ≡ count P 0
-unfolding count
-count-zero P = refl
-
-pub count-hit : (P : ℕ → Bool) (n c : ℕ) → c ≡ count P n → P n ≡ true → c + 1 ≡ count P (n + 1)
-unfolding count
-count-hit P n c e h = rw (add-one n, h, e)
-
-pub count-miss : (P : ℕ → Bool) (n c : ℕ) → c ≡ count P n → P n ≡ false → c ≡ count P (n + 1)
-unfolding count
-count-miss P n c e h = rw (add-one n, h, e)
-
--- none is counted exactly where every one passes
-pub count-every : (P : ℕ → Bool) (n : ℕ) → eqb (count (λ i. not (P i)) n) 0 ≡ every P n
-count-every P n = tested-same (tested-iff none (λ all. count-none _ n (λ k h. not-all k (all k h))) (eq-tested _ 0)) (every-tested P n holds-if)
-  where
-    holds-if : (k : ℕ) → Tested (P k ≡ true) (P k)
-    holds-if k = tested (P k) (λ e. e) (λ e. e)
-
-    not-all : (k : ℕ) → P k ≡ true → not (P k) ≡ false
-    not-all k e = rw e refl
-
-    none : count (λ i. not (P i)) n ≡ 0 → (k : ℕ) → k < n → P k ≡ true
-    none e k h = ⊎-elim (λ t. t) (λ f. absurd (counted k h f)) (true-or-false (P k))
-      where
-        counted : (k : ℕ) → k < n → P k ≡ false → ⊥
-        counted k h f =
-            let a = members-all (λ i. not (P i)) n k h (rw f refl) in
-            omega (arith, a .1, length-members (λ i. not (P i)) n, e)
-
 -- ---- a window
 
 -- where no mismatch ends, positions alike in the pattern are alike in the window
@@ -159,10 +121,3 @@ pub clear-alike : (m w : ℕ → ℕ) (n : ℕ) → n ≤ firstEnd m w n → (p 
 unfolding firstEnd
 clear-alike m w n none p q hp hq e =
     even-if m w n (λ k l. first-spec (ends m w) n .before k (omega arith)) p q hp hq .there e
-
--- position p of the window lies that far behind its corner
-pub offset-at : (text : List ℕ) (columns top left width p : ℕ)
-    → getD text (top * columns + left + offsetOf columns width p) 0 ≡ windowAt text columns top left width p
-offset-at text columns top left width p =
-    ap (λ (k : ℕ). getD text k 0) (omega (arith, add-mul top (p / width) columns))
-    ∙ sym (window-at text columns top left width p)

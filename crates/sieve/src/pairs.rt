@@ -5,7 +5,8 @@ ghost use Prim.Native.Nat.{_+_, _≤_, _<_};
 ghost use lib.ListN.{length, getD, replicate};
 ghost use Rattle.theory.specs.First.{every};
 ghost use Rattle.prefixes.specs.State.{FirstPlaces};
-ghost use Rattle.sieve.specs.Pairs.{offsetOf, AlikePairs, PairsInside, alikeAt};
+ghost use Rattle.sieve.specs.Pairs.{AlikePairs, PairsInside, alikeAt};
+use shapes::windows::cell_offset;
 
 // Eight times the corner itself: a pair of a cell with itself, which is alike in every window.
 pub fn no_offsets() -> [usize; 8]
@@ -14,16 +15,9 @@ pub fn no_offsets() -> [usize; 8]
     [0usize; 8]
 }
 
-// How far behind a window's corner its position p lies in the text.
-fn offset(columns: usize, width: usize, p: usize) -> usize
-    requires { ⌜ (0 < width) × (columns ≤ 255) × (p ≤ 65025) ⌝ }
-    ensures { λ r. ⌜ r ≡ offsetOf columns width p ⌝ }
-{
-    p / width * columns + p % width
-}
-
-// The first eight positions whose symbol stands before them in the pattern, each with the first place of that symbol,
-// as offsets. Where there are fewer the rest stays.
+// Up to eight pairs of cells that are alike in the pattern, as offsets: the first positions whose symbol stands before
+// them, each with the first place of that symbol. The contract says only that all eight are alike; which they are is a
+// matter of time.
 pub fn alike_pairs(
     pattern: &[u8],
     first: &[usize; 256],
@@ -48,8 +42,8 @@ pub fn alike_pairs(
             q += 1;
             continue;
         }
-        earlier[n] = offset(columns, width, p);
-        later[n] = offset(columns, width, q);
+        earlier[n] = cell_offset(columns, width, p);
+        later[n] = cell_offset(columns, width, q);
         n += 1;
         q += 1;
     }

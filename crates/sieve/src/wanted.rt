@@ -13,7 +13,8 @@ use reach::places::no_positions;
 use reach::reach::reach;
 use shapes::shapes::Shape;
 
-// As many first rows as have sixteen cells, one more, or all: a first row that is constant, a border, tells too little.
+// As many first rows as have sixteen cells and one more, or all where there are fewer: a first row that is constant, a
+// border, tells too little.
 fn first_rows(height: usize, width: usize) -> usize
     requires { ⌜ 0 < width ⌝ }
     ensures { λ r. ⌜ r ≡ firstRows height width ⌝ }
@@ -25,8 +26,8 @@ fn first_rows(height: usize, width: usize) -> usize
     height
 }
 
-// Whether the window at row top may match: it has the right count, the pattern's pairs are alike in it, and it agrees
-// with the pattern in its first rows.
+// False only where the window at row top does not match: it has another count, a pair of the pattern's is not alike in
+// it, or it does not agree with the pattern in its first rows.
 fn may_match(
     text: &[u8],
     pattern: &[u8],

@@ -1,5 +1,5 @@
--- The sweep: the first end of each window of a strip, and the earlier position of the mismatch that ends there, in a
--- time that is linear in the strip.
+-- The sweep: a step from window to window down a strip, which finds the window's first end and the earlier position of
+-- the mismatch that ends there. All steps of a strip together take a time that is linear in the strip.
 --
 -- Down a strip each window is asked with what the last one that was compared says of it, by the three laws of
 -- crates/prefixes. The step and the two cells: symbol by symbol, with the first places of the pattern's symbols and the

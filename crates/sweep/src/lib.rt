@@ -1,3 +1,4 @@
-// The sweep: the first end of every window of a strip, in a time that is linear in the strip.
+// The sweep: from window to window down a strip, so that all of them take a time linear in the strip; and the same run
+// down the pattern itself.
 pub mod own;
 pub mod steps;

@@ -19,8 +19,8 @@ pub fn own_rows(height: usize, windows: usize) -> usize
     height
 }
 
-// The first ends of the first n of the pattern's own windows, each from row k to its end, and their earlier positions:
-// a run down the pattern as a strip. Where n is 1 nothing is compared.
+// The first ends of the first n of the pattern's own windows, and their earlier positions: window k has the pattern's
+// rows from row k to the last. It is a run down the pattern as a strip. Where n is 1 nothing is compared.
 pub fn own_ends(
     pattern: &[u8],
     height: usize,

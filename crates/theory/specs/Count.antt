@@ -1,6 +1,7 @@
 -- How many numbers below a bound pass a test, and which.
 -- Assumes nothing.
 pub mod Laws
+pub mod Steps
 use mathlib.Core.Path.{_≡_}
 use mathlib.Core.Bool.{Bool}
 use mathlib.Core.List.{List, [], _∷_, _++_}

@@ -1,4 +1,4 @@
--- The least number below a bound that passes a test: one notion of search for links, last places, mismatches and
+-- The least number below a bound that passes a test: one notion of search for links, mismatches, first places and
 -- members of a set.
 -- Assumes nothing.
 pub mod Laws

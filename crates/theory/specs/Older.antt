@@ -1,6 +1,6 @@
--- Tables of 256 entries that are lent from window to window and never cleared: each window has a base of its own, and
--- an entry below it counts for nothing. For images and marks the base rises by 256 from window to window, for last
--- places it is where the window begins.
+-- Tables of 256 entries that are lent from window to window and never cleared, and a bound above all entries. What a
+-- window stores is not below the bound that held before it: so an entry that is, an earlier window left, and a table
+-- that is lent on has nothing of windows that come later.
 -- Assumes nothing.
 pub mod Laws
 use mathlib.Core.Path.{_≡_}

@@ -7,6 +7,7 @@ ghost use Rattle.prefixes.specs.State.{FirstPlaces};
 ghost use Rattle.sets.specs.Symbols.{symbolsOf};
 ghost use Rattle.matching.specs.Compare.{patternAt};
 ghost use Rattle.writer.specs.Listing.Offsets.{PairTables};
+use shapes::windows::cell_offset;
 
 // The offset of each listed symbol: from a window's corner to the window's cell at the symbol's first place.
 pub fn list_offsets(
@@ -30,7 +31,7 @@ pub fn list_offsets(
     while k < d {
         let symbol = listed[k] as usize;
         let p = first[symbol];
-        offsets[k] = p / width * columns + p % width;
+        offsets[k] = cell_offset(columns, width, p);
         k += 1;
     }
 }

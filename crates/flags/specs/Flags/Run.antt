@@ -17,7 +17,7 @@ use Rattle.grid.specs.Strips.{link}
 use Rattle.prefixes.specs.Prefixes.{suffix}
 use Rattle.prefixes.specs.State.{FirstPlaces}
 use Rattle.flags.specs.declared.run.Run.{Run}
-use Rattle.flags.specs.declared.run.Marked.{Marked}
+use Rattle.flags.specs.declared.run.RunFlag.{RunFlag}
 
 -- no mismatch of the window at place i ends before place e
 abbrev pub ClearTo : List ℕ → (ℕ → ℕ) → ℕ → ℕ → Type 0
@@ -85,8 +85,8 @@ flagByEnd pattern symbols count w =
     (pick (ltb (firstEnd (λ k. getD pattern k 0) w (length pattern)) (length pattern)) 0 1) 0
 
 -- the window's flag, and where the run stands behind it; links are asked for only where the counts are equal
-pub record WindowMarked (pattern : List ℕ) (symbols count : ℕ) (links : List ℕ) (width row reached top : ℕ)
-    (r : Marked) : Type 0 where
+pub record WindowFlagged (pattern : List ℕ) (symbols count : ℕ) (links : List ℕ) (width row reached top : ℕ)
+    (r : RunFlag) : Type 0 where
   pub past : r .row ≤ top
   pub fits : r .reached ≤ r .row * width + length pattern
   pub clear : (t : ℕ → ℕ) → (count ≡ symbols → LinksFrom t links (top * width) (length pattern))

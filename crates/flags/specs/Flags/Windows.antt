@@ -1,5 +1,5 @@
 -- Laws of the loop over a strip's windows: the run stands before each window, and the flags of the windows above it are
--- written (`windows-first`, `windows-more`, `windows-all`); and what the pattern says by itself.
+-- written (`windows-first`, `windows-more`, `windows-flagged`); and what the pattern says by itself.
 -- Assumes nothing.
 use mathlib.Core.Path.{_≡_, refl, sym, _∙_}
 use mathlib.Core.List.{List}
@@ -18,11 +18,11 @@ use Rattle.grid.specs.Distinct.{distinct}
 use Rattle.prefixes.specs.State.{FirstPlaces}
 use Rattle.sweep.specs.Sweep.{Owns, SidesOf, ownRows}
 use Rattle.sweep.specs.Sweep.Own.{own-rows-in}
-use Rattle.flags.specs.declared.run.Marked.{Marked}
+use Rattle.flags.specs.declared.run.RunFlag.{RunFlag}
 use Rattle.flags.specs.Flags.{Room}
 use Rattle.flags.specs.Flags.Laws.{strip-part, strip-small}
 use Rattle.flags.specs.Flags.Strips.{flagOf, CountsAre, LinksAre, end-strip-flag}
-use Rattle.flags.specs.Flags.Run.{ClearTo, LinksFrom, OwnEnds, WindowAsked, WindowMarked}
+use Rattle.flags.specs.Flags.Run.{ClearTo, LinksFrom, OwnEnds, WindowAsked, WindowFlagged}
 
 -- what the pattern says by itself: the first places of its symbols, and the first ends of its rows from each row on, for
 -- strips of n windows
@@ -133,8 +133,8 @@ module _ (pattern first selves : List ℕ) (symbols : ℕ) (s : Shape) (left : �
           fits = here .fits;
         }
 
-    module _ (count : ℕ) (ec : count ≡ getD counts (top * across s + left) 0) (r : Marked)
-        (got : WindowMarked pattern symbols count links (s .width) row reached top r) where
+    module _ (count : ℕ) (ec : count ≡ getD counts (top * across s + left) 0) (r : RunFlag)
+        (got : WindowFlagged pattern symbols count links (s .width) row reached top r) where
       -- the links of the window are there
       links-from : (text : List ℕ) → StripMeets text pattern symbols s left counts links
           → LinksFrom (stripAt text (s .columns) left (s .width)) links (top * s .width) (length pattern)
@@ -162,9 +162,9 @@ module _ (pattern first selves : List ℕ) (symbols : ℕ) (s : Shape) (left : �
                 (flag-here text m));
           }
 
-  pub windows-all : (row reached top : ℕ) (flags : List ℕ) → down s ≤ top
+  pub windows-flagged : (row reached top : ℕ) (flags : List ℕ) → down s ≤ top
       → WindowsTo pattern symbols s left counts links flags₀ row reached top flags
       → StripFlagged pattern symbols s left counts links flags₀ flags
-  windows-all row reached top flags h here =
+  windows-flagged row reached top flags h here =
       let e : top ≡ down s = omega (arith, here .top-le) in
       record { long = here .long; written = λ text m. rw e at (here .written text m) }

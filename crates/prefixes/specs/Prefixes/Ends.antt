@@ -11,16 +11,8 @@ use Rattle.theory.specs.Test.{pick, Tested, holds, fails}
 use Rattle.theory.specs.Test.Laws.{pick-true, pick-false, lt-tested}
 use Rattle.theory.specs.First.Laws.{first-is}
 use Rattle.theory.specs.Match.{earliest, ends, firstEnd, matched, mismatched, mismatchEnding, answerOf}
-use Rattle.theory.specs.Match.Even.{ends-not, earliest-le}
+use Rattle.theory.specs.Match.Even.{ends-not}
 use Rattle.prefixes.specs.Prefixes.{EndIs, firstEarlier}
-
-pub earlier-le : (m w : ℕ → ℕ) (n : ℕ) → firstEarlier m w n ≤ n
-unfolding firstEarlier
-earlier-le m w n = go (lt-tested (firstEnd m w n) n)
-  where
-    go : {b : Bool} → Tested (firstEnd m w n < n) b → pick b (earliest m w (firstEnd m w n)) 0 ≤ n
-    go (holds h) = omega (arith, earliest-le m w (firstEnd m w n))
-    go (fails h) = omega arith
 
 module _ (m w : ℕ → ℕ) (n end earlier : ℕ) where
   pub ends-inside : end ≡ firstEnd m w n → end < n → earlier ≡ earliest m w end → EndIs m w n end earlier

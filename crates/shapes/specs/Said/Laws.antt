@@ -100,10 +100,6 @@ pub then-both : (a b : Said) (returned : List ℕ) → a then b ≡ accepts retu
 then-both (accepts values) b returned e = ((values, refl), e)
 then-both (refuses number values) b returned e = absurd (not-accepted number values returned e)
 
--- parts that say the same go on with the same
-pub then-goes : (a b c : Said) (values : List ℕ) → a ≡ accepts values → c ≡ b → c ≡ a then b
-then-goes a b c values e d = d ∙ rw e
-
 -- chains are joined in either order
 pub then-assoc : (a b c : Said) → (a then b) then c ≡ a then (b then c)
 then-assoc (accepts values) b c = refl

@@ -4,7 +4,7 @@
 use mathlib.Core.Path.{_≡_, refl, sym, _∙_, ap, ap₂}
 use mathlib.Core.List.{List, [], _∷_, _++_}
 use Prim.Native.Nat.{ℕ, suc, _+_, _-_, _*_, _/_, _%_, _≤_, _<_}
-use native.Mathlib.Nat.{add-zero, add-assoc, add-comm, zero-add, suc-mul, zero-mul, one-mul, mul-le-mul-right}
+use native.Mathlib.Nat.{add-zero, add-mul, add-assoc, add-comm, zero-add, suc-mul, zero-mul, one-mul, mul-le-mul-right}
 use native.Mathlib.Nat.{min-le-left, mul-add-div-right, mul-add-mod-self-right, div-eq-of-lt, mod-eq-of-lt}
 use native.Mathlib.Omega.{arith}
 use lib.ListN.{length, getD, take, drop, length-take, length-drop, drop-of-length-le}
@@ -16,6 +16,7 @@ use Rattle.theory.specs.Table.Laws.{table-zero, length-table, getD-table, table
 use Rattle.shapes.specs.Shapes.{Shaped}
 use Rattle.shapes.specs.declared.windows.Cell.the-variants.{Symbol, PastEnd}
 use Rattle.shapes.specs.Windows.{place, cellOf, windowAt, windowCells, rowCells, stripAt, cornerRow, cornerColumn}
+use Rattle.shapes.specs.Windows.{offsetOf}
 
 pub corner-row : (across row column : ℕ) → column < across → cornerRow across (row * across + column) ≡ row
 corner-row across row column h = rw (mul-add-div-right {m = across} (omega arith) row column, div-eq-of-lt h, add-zero)
@@ -44,6 +45,12 @@ module _ (text : List ℕ) (rowWidth row column width : ℕ) where
       ≡ getD text ((row + p / width) * rowWidth + column + p % width) 0
   unfolding windowAt place
   window-at p = refl
+
+  -- position p lies that far behind the corner
+  pub offset-at : (p : ℕ) → getD text (row * rowWidth + column + offsetOf rowWidth width p) 0
+      ≡ windowAt text rowWidth row column width p
+  offset-at p =
+      ap (λ (k : ℕ). getD text k 0) (omega (arith, add-mul row (p / width) rowWidth)) ∙ sym (window-at p)
 
   pub window-cell : (i j : ℕ) → j < width
       → windowAt text rowWidth row column width (i * width + j) ≡ getD text ((row + i) * rowWidth + column + j) 0

@@ -17,14 +17,15 @@ use Rattle.theory.specs.Match.{ends, firstEnd}
 use Rattle.theory.specs.Older.Laws.{older-zeros}
 use Rattle.shapes.specs.Shapes.{ShapeOf, across, down}
 use Rattle.shapes.specs.Shapes.Laws.{product-le}
-use Rattle.shapes.specs.Windows.{windowAt, stripAt}
+use Rattle.shapes.specs.Windows.{windowAt, stripAt, offsetOf}
+use Rattle.shapes.specs.Windows.Laws.{offset-at}
 use Rattle.shapes.specs.declared.shapes.Shape.{Shape}
 use Rattle.grid.specs.Strips.{StripOf, stripFrom}
 use Rattle.prefixes.specs.Prefixes.{suffix}
 use Rattle.prefixes.specs.State.Laws.{swept-none}
 use Rattle.reach.specs.Reach.{ReachAt, Reached}
 use Rattle.reach.specs.Reach.Laws.{window-suffix}
-use Rattle.sieve.specs.Pairs.{offsetOf, PairAt, PairsInside, alikeAt, clear-alike, offset-at}
+use Rattle.sieve.specs.Pairs.{PairAt, PairsInside, alikeAt, clear-alike}
 use Rattle.sieve.specs.Sieve.{Differs, RowsTo, RowsFrom, StripAsked, RowsAsked, firstRows}
 
 -- a mismatch that ends in the first k positions ends in all n

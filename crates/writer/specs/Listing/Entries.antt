@@ -106,7 +106,7 @@ module _ (text : List ℕ) (v : WindowPlace) (pattern : List ℕ) where
 
 module _ (text : List ℕ) (v : WindowPlace) (pattern : List ℕ) (h : Unmatched text v pattern) (p q : ℕ)
     (ep : p ≡ firstEnd (patternAt pattern) (windowOf text v) (cellCount v)) where
-  -- the scan ended inside
+  -- a mismatch ends inside the window
   pub end-inside : p < cellCount v
   end-inside = go (lt-tested p (cellCount v))
     where

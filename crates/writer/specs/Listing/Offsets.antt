@@ -5,7 +5,7 @@ use mathlib.Core.Path.{_≡_, sym, _∙_, ap}
 use mathlib.Core.Bool.{Bool, true}
 use mathlib.Core.List.{List}
 use Prim.Native.Nat.{ℕ, _+_, _*_, _/_, _%_, _≤_, _<_}
-use native.Mathlib.Nat.{add-mul, mul-le-mul, div-lt-iff-lt-mul, le-mul-of-pos-right}
+use native.Mathlib.Nat.{add-mul}
 use native.Mathlib.Omega.{arith}
 use lib.Dec.{eqb}
 use lib.ListN.{length, getD, set, length-set}
@@ -18,6 +18,7 @@ use Rattle.theory.specs.Count.Laws.{members-pass, length-members, count-le}
 use Rattle.grid.specs.Distinct.{contains}
 use Rattle.grid.specs.Distinct.Sets.{contains-tested}
 use Rattle.sets.specs.Symbols.{symbolsOf}
+use Rattle.shapes.specs.Windows.{offsetOf}
 use Rattle.shapes.specs.Windows.Laws.{window-at}
 use Rattle.shapes.specs.declared.windows.WindowPlace.{WindowPlace}
 use Rattle.prefixes.specs.State.{FirstPlaces}
@@ -111,7 +112,7 @@ module _ (pattern : List ℕ) (columns width : ℕ) (listed : List ℕ) where
 
   -- one more: p is the symbol's first place
   pub offsets-more : (offsets : List ℕ) (k p x : ℕ) → OffsetsTo pattern columns width listed k offsets → k < 256
-      → p ≡ firstPlace pattern (getD listed k 0) → x ≡ p / width * columns + p % width
+      → p ≡ firstPlace pattern (getD listed k 0) → x ≡ offsetOf columns width p
       → OffsetsTo pattern columns width listed (k + 1) (set offsets k x)
   offsets-more offsets k p x o h e d =
       record { long = rw length-set (o .long); lead = λ j l. go j l (eq-tested j k) }
@@ -131,14 +132,6 @@ module _ (pattern : List ℕ) (columns width : ℕ) (listed : List ℕ) where
       → PairTables pattern columns width listed offsets
   offsets-all offsets k e o h =
       record { symbols-are = e; long = o .long; offsets-lead = λ j l. o .lead j (omega arith) }
-
--- the numbers stay small
-pub offset-small : (p columns width : ℕ) → p < 65025 → columns ≤ 255 → 0 < width
-    → (p / width * columns) ≤ 65025 * 255
-offset-small p columns width h c w =
-    let q : p / width < 65025 = div-lt-iff-lt-mul w .1 (omega (arith, le-mul-of-pos-right 65025 w)) in
-    let le : p / width ≤ 65025 = omega arith in
-    mul-le-mul le c
 
 -- ---- a pair that is read by the tables
 

@@ -6,7 +6,7 @@ use native.Mathlib.Omega.{arith}
 use Prim.Native.Nat.{_+_, _-_, _*_, _<_}
 use Rattle.shapes.specs.Shapes.{across, down}
 use Rattle.grid.specs.Counts.Laws.{place-lt, windows-small}
-use Rattle.flags.specs.Flags.Windows.{WindowsTo, windows-first, windows-ask, windows-more, windows-all}
+use Rattle.flags.specs.Flags.Windows.{WindowsTo, windows-first, windows-ask, windows-more, windows-flagged}
 use Rattle.flags.proofs.flags.flag_strip.Statement.{statement}
 use Rattle.flags.proofs.flags.flag_strip.Tie as tie
 
@@ -89,7 +89,7 @@ same-length c = c .before .loop .inv .long
 
 returns : tie.Need-returns Inv-loop μ-loop
 returns c =
-    let o = c .before .before .before .before .before .before .before .before .before .before in windows-all _ _ _ _ _ _
+    let o = c .before .before .before .before .before .before .before .before .before .before in windows-flagged _ _ _ _ _ _
     _ _ _ (o .pre .0) (o .pre .1) (o .pre .2) _ _ _ _ (omega (arith, c .loop-test .left)) (c .before .loop .inv)
 
 pub flag-strip-spec : {M : Type 1} → statement M

@@ -8,8 +8,8 @@ use Rattle.flags.proofs.run.next_flag.Tie as tie
 returns : tie.Need-returns
 returns c = marked-skipped _ _ _ _ _ _ _ _ (c .before .before .before .pre) _ _ (c .if1 .taken)
 
-next-window-requires : tie.Need-next-window-requires
-next-window-requires c κs = search needs
+next-linked-requires : tie.Need-next-linked-requires
+next-linked-requires c κs = search needs
 
 flag-by-requires : tie.Need-flag-by-requires
 flag-by-requires c κs = search needs
@@ -17,7 +17,7 @@ flag-by-requires c κs = search needs
 returns-2 : tie.Need-returns-2
 returns-2 c =
     marked-compared _ _ _ _ _ _ _ _ (c .before .before .before .before .before .pre) _ _ (c .before .before .if1 .left)
-    _ (c .before .next-window .ensures) _ (c .flag-by .ensures)
+    _ (c .before .next-linked .ensures) _ (c .flag-by .ensures)
 
 pub next-flag-spec : {M : Type 1} → statement M
-next-flag-spec = tie.close (tie.spec returns next-window-requires flag-by-requires returns-2)
+next-flag-spec = tie.close (tie.spec returns next-linked-requires flag-by-requires returns-2)

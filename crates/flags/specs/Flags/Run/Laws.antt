@@ -23,7 +23,7 @@ use Rattle.prefixes.specs.State.{FirstPlaces}
 use Rattle.prefixes.specs.State.Tables.{first-at}
 use Rattle.flags.specs.declared.run.Run.{Run}
 use Rattle.flags.specs.Flags.Run.{ClearTo, LinksFrom, linkedAt, CompareAt, Compared, EndsBy, WindowAsked}
-use Rattle.flags.specs.Flags.Run.{WindowEnds, flagByEnd, WindowMarked}
+use Rattle.flags.specs.Flags.Run.{WindowEnds, flagByEnd, WindowFlagged}
 
 -- ---- one position
 
@@ -211,7 +211,7 @@ module _ (pattern first selves links : List ℕ) (width row reached top : ℕ)
 
   module _ (symbols count : ℕ) where
     pub marked-skipped : (count ≡ symbols → ⊥)
-        → WindowMarked pattern symbols count links width row reached top
+        → WindowFlagged pattern symbols count links width row reached top
         (record { row = row; reached = reached; flag = 0 })
     unfolding flagByEnd
     marked-skipped h =
@@ -224,7 +224,7 @@ module _ (pattern first selves links : List ℕ) (width row reached top : ℕ)
 
     pub marked-compared : count ≡ symbols → (r : Run) → WindowEnds pattern links width row reached top r → (v : ℕ)
         → v ≡ pick (ltb (r .end) (length pattern)) 0 1
-        → WindowMarked pattern symbols count links width row reached top
+        → WindowFlagged pattern symbols count links width row reached top
         (record { row = r .row; reached = r .reached; flag = v })
     unfolding flagByEnd
     marked-compared e r got v ev =

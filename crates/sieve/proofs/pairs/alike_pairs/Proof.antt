@@ -57,8 +57,8 @@ loop-less c = omega (arith, c .before .before .before .before .loop-test .taken)
 loop-again : tie.Need-loop-again Inv-loop μ-loop
 loop-again c = c .before .before .before .before .before .loop .inv
 
-offset-requires : tie.Need-offset-requires Inv-loop μ-loop
-offset-requires c κs =
+cell-offset-requires : tie.Need-cell-offset-requires Inv-loop μ-loop
+cell-offset-requires c κs =
     let o = c .before .before .before .before .before .before .before in (
       o .pre .1,
       o .pre .2,
@@ -71,8 +71,8 @@ mul-earlier c = omega (arith, room (c .before))
 element-write-earlier : tie.Need-element-write-earlier Inv-loop μ-loop
 element-write-earlier c = room (c .before)
 
-offset-requires-2 : tie.Need-offset-requires-2 Inv-loop μ-loop
-offset-requires-2 c κs =
+cell-offset-requires-2 : tie.Need-cell-offset-requires-2 Inv-loop μ-loop
+cell-offset-requires-2 c κs =
     let o = c .before .before .before .before .before .before .before .before in (o .pre .1, o .pre .2, omega (arith, in-pattern (c .before), o .pre .3))
 
 mul-later : tie.Need-mul-later Inv-loop μ-loop
@@ -97,7 +97,7 @@ loop-again-2 c =
     let o = c .before .before .before .before .before .before .before .before .before in (
       omega (arith, room i),
       pairs-more _ _ _ _ _ (l .n) _ _ (room i)
-          (pair-first _ _ _ _ (o .pre .0) (l .q) _ _ (in-pattern i) (c .before .offset .ensures) (c .offset2 .ensures))
+          (pair-first _ _ _ _ (o .pre .0) (l .q) _ _ (in-pattern i) (c .before .cell-offset .ensures) (c .cell-offset2 .ensures))
           (l .inv .1),
     )
 
@@ -119,10 +119,10 @@ alike-pairs-spec =
     add-q
     loop-less
     loop-again
-    offset-requires
+    cell-offset-requires
     mul-earlier
     element-write-earlier
-    offset-requires-2
+    cell-offset-requires-2
     mul-later
     element-write-later
     add-n

@@ -12,7 +12,8 @@ use denote.Ref.{now}
 use Rattle.theory.specs.Test.Laws.{eq-tested, is-true, is-false}
 use Rattle.theory.specs.Count.{count}
 use Rattle.theory.specs.Count.Laws.{count-le}
-use Rattle.sieve.specs.Pairs.{alikeAt, count-zero, count-every, count-hit, count-miss}
+use Rattle.theory.specs.Count.Steps.{count-zero, count-every, count-hit, count-miss}
+use Rattle.sieve.specs.Pairs.{alikeAt}
 use Rattle.sieve.proofs.pairs.pairs_alike.Statement.{statement}
 use Rattle.sieve.proofs.pairs.pairs_alike.Tie as tie
 

@@ -1,12 +1,11 @@
 -- `offsets::list_offsets` meets its contract. The invariant: the first k symbols have their offsets.
 -- Assumes nothing.
-use mathlib.Core.Path.{_≡_, refl}
+use mathlib.Core.Path.{_≡_}
 use native.Mathlib.Omega.{arith}
-use native.Mathlib.Nat.{mod-lt}
-use Prim.Native.Nat.{_-_, _*_, _/_, _%_, _≤_, _<_}
+use Prim.Native.Nat.{_-_, _≤_, _<_}
 use lib.ListN.{getD}
 use denote.Ref.{now}
-use Rattle.writer.specs.Listing.Offsets.{OffsetsTo, offsets-none, offsets-more, offsets-all, offset-small}
+use Rattle.writer.specs.Listing.Offsets.{OffsetsTo, offsets-none, offsets-more, offsets-all}
 use Rattle.writer.specs.Listing.Offsets.{firstPlace, place-listed, place-stands, listed-symbol, listed-few}
 use Rattle.writer.proofs.offsets.list_offsets.Statement.{statement}
 use Rattle.writer.proofs.offsets.list_offsets.Tie as tie
@@ -35,21 +34,15 @@ place-is c = let o = c .before .before .before .before in
     (listed-symbol (now (o .args .pattern)) (now (o .args .listed)) (o .pre .4)
     (c .before .before .before .loop .k) (omega (arith, c .before .before .loop-test .taken)) .1)
 
--- the offset is a small number, and so is one by the pattern's width
+-- it lies in the pattern, whose positions are small numbers
 small : (c : tie.After-p Inv-loop μ-loop) →
     let a = c .before .before .before .before .args in
-    let p = getD (now (a .first)) (getD (now (a .listed)) (c .before .before .before .loop .k) 0) 0 in
-    (p / a .width * a .columns ≤ 65025 * 255) × (p / a .width * a .width ≤ 65025 * 255) × (p % a .width < 256)
+    getD (now (a .first)) (getD (now (a .listed)) (c .before .before .before .loop .k) 0) 0 ≤ 65025
 small c = let o = c .before .before .before .before in
     let a = o .args in
     let s = place-stands (now (a .pattern)) _ (listed-symbol (now (a .pattern)) (now (a .listed)) (o .pre .4)
     (c .before .before .before .loop .k) (omega (arith, c .before .before .loop-test .taken)) .1) in
-    let p = getD (now (a .first)) (getD (now (a .listed)) (c .before .before .before .loop .k) 0) 0 in
-    let l : p < 65025 = omega (arith, place-is c, s .0, o .pre .3) in (
-      offset-small p (a .columns) (a .width) l (o .pre .2) (o .pre .0),
-      offset-small p (a .width) (a .width) l (o .pre .1) (o .pre .0),
-      omega (arith, mod-lt p (o .pre .0), o .pre .1),
-    )
+    omega (arith, place-is c, s .0, o .pre .3)
 
 -- there is an entry for it
 few : (c : tie.After-p Inv-loop μ-loop) → c .before .before .before .loop .k < 256
@@ -77,38 +70,29 @@ mul-p c = omega (arith, symbol-byte c)
 element-copy-out-p : tie.Need-element-copy-out-p Inv-loop μ-loop
 element-copy-out-p c = symbol-byte c
 
-div-offsets : tie.Need-div-offsets Inv-loop μ-loop
-div-offsets c = c .before .before .before .before .pre .0
+cell-offset-requires : tie.Need-cell-offset-requires Inv-loop μ-loop
+cell-offset-requires c κs = let o = c .before .before .before .before in (o .pre .0, o .pre .2, small c)
 
 mul-offsets : tie.Need-mul-offsets Inv-loop μ-loop
-mul-offsets c = omega (arith, small c)
-
-rem-offsets : tie.Need-rem-offsets Inv-loop μ-loop
-rem-offsets c = c .before .before .before .before .pre .0
-
-add-offsets : tie.Need-add-offsets Inv-loop μ-loop
-add-offsets c = omega (arith, small c)
-
-mul-offsets-2 : tie.Need-mul-offsets-2 Inv-loop μ-loop
-mul-offsets-2 c = omega (arith, few c)
+mul-offsets c = omega (arith, few (c .before))
 
 element-write-offsets : tie.Need-element-write-offsets Inv-loop μ-loop
-element-write-offsets c = few c
+element-write-offsets c = few (c .before)
 
 add-k : tie.Need-add-k Inv-loop μ-loop
-add-k c = omega (arith, few c)
+add-k c = omega (arith, few (c .before))
 
 loop-less : tie.Need-loop-less Inv-loop μ-loop
-loop-less c = omega (arith, c .before .before .loop-test .taken)
+loop-less c = omega (arith, c .before .before .before .loop-test .taken)
 
 loop-again : tie.Need-loop-again Inv-loop μ-loop
-loop-again c = let o = c .before .before .before .before in
+loop-again c = let i = c .before in
+    let o = i .before .before .before .before in
     let a = o .args in
-    let l = c .before .before .before .loop in (
-      omega (arith, c .before .before .loop-test .taken),
+    let l = i .before .before .before .loop in (
+      omega (arith, i .before .before .loop-test .taken),
       offsets-more (now (a .pattern)) (a .columns) (a .width) (now (a .listed)) (l .offsets) (l .k) _ _ (l .inv .1)
-          (few c)
-          (place-is c) refl,
+          (few i) (place-is i) (c .cell-offset .ensures),
     )
 
 returns : tie.Need-returns Inv-loop μ-loop
@@ -126,11 +110,8 @@ list-offsets-spec =
     cast-symbol
     mul-p
     element-copy-out-p
-    div-offsets
+    cell-offset-requires
     mul-offsets
-    rem-offsets
-    add-offsets
-    mul-offsets-2
     element-write-offsets
     add-k
     loop-less

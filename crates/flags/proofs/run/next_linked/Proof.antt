@@ -1,12 +1,12 @@
--- `run::next_window` meets its contract: one law for each way out, which are that nothing of the window was looked at
+-- `run::next_linked` meets its contract: one law for each way out, which are that nothing of the window was looked at
 -- yet, that it inherits its end, and that it goes on where the last one ended.
 -- Assumes nothing.
 use mathlib.Core.Path.{refl}
 use native.Mathlib.Omega.{arith}
 use Rattle.flags.specs.Flags.Run.Laws.{anew-asks, window-anew, window-inherits, onward-asks, window-onward}
 use borrow.Author.Needs.{needs}
-use Rattle.flags.proofs.run.next_window.Statement.{statement}
-use Rattle.flags.proofs.run.next_window.Tie as tie
+use Rattle.flags.proofs.run.next_linked.Statement.{statement}
+use Rattle.flags.proofs.run.next_linked.Tie as tie
 
 mul-start : tie.Need-mul-start
 mul-start c = search needs
@@ -54,8 +54,8 @@ returns-3 c =
     (omega (arith, c .before .before .before .if1 .left)) _ refl (omega (arith, c .before .if2 .left)) _
     (c .linked-end2 .ensures)
 
-pub next-window-spec : {M : Type 1} → statement M
-next-window-spec =
+pub next-linked-spec : {M : Type 1} → statement M
+next-linked-spec =
     tie.close
     (tie.spec
     mul-start

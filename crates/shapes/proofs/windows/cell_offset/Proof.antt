@@ -1,12 +1,12 @@
--- `pairs::offset` meets its contract; what is left is that the numbers are small.
+-- `windows::cell_offset` meets its contract; what is left is that the numbers are small.
 -- Assumes nothing.
 use Prim.Native.Nat.{_*_, _/_, _%_, _≤_}
 use native.Mathlib.Nat.{div-le-self, mod-le}
 use native.Mathlib.Omega.{arith}
 use Rattle.shapes.specs.Shapes.Laws.{product-le}
 use borrow.Author.Needs.{needs}
-use Rattle.sieve.proofs.pairs.offset.Statement.{statement}
-use Rattle.sieve.proofs.pairs.offset.Tie as tie
+use Rattle.shapes.proofs.windows.cell_offset.Statement.{statement}
+use Rattle.shapes.proofs.windows.cell_offset.Tie as tie
 
 small : (c : tie.Start) → c .args .p / c .args .width * c .args .columns ≤ 65025 * 255
 small c = product-le _ _ 65025 255 (omega (arith, div-le-self (c .args .p) (c .args .width), c .pre .2)) (c .pre .1)
@@ -26,5 +26,5 @@ add-result c = omega (arith, small c, mod-le (c .args .p) (c .args .width))
 returns : tie.Need-returns
 returns c = search needs
 
-pub offset-spec : {M : Type 1} → statement M
-offset-spec = tie.close (tie.spec div-result mul-result rem-result add-result returns)
+pub cell-offset-spec : {M : Type 1} → statement M
+cell-offset-spec = tie.close (tie.spec div-result mul-result rem-result add-result returns)
