@@ -1,5 +1,6 @@
 -- Document 01's search: one function from what is asked and lent to what is said and left (`searchOf`).
 -- Assumes nothing.
+pub mod Pattern
 pub mod Accepted
 pub mod Answers
 pub mod Steps

@@ -7,16 +7,16 @@ ghost use Rattle.shapes.specs.Questions.{ask, asked};
 ghost use lib.ListN.{length};
 ghost use Rattle.flags.specs.Flags.{RoomFor, rooms};
 ghost use Rattle.search.specs.Search.{done, lend, roomSaid, listedOf, searchOf};
+use crate::pattern::read_pattern;
 use crate::totals::totals_of;
 use flags::flags::flag_all;
-use reach::places::first_places;
 use reach::places::no_positions;
-use sets::symbols::pattern_size;
 use shapes::refusals::Outcome;
 use shapes::refusals::Reason;
 use shapes::refusals::Refusal;
 use shapes::shapes::Shape;
 use shapes::shapes::question_outcome;
+use shapes::tables::no_symbols;
 use writer::writing::write_listing;
 
 // What a search answers.
@@ -83,9 +83,9 @@ fn search_windows(
         (lend (now (links .entry)) (now (counts .entry)) (now (flags .entry)) (now (listing .entry))) ⌝ }
 {
     let n = (s.rows + 1 - s.height) * (s.columns + 1 - s.width);
-    let symbols = pattern_size(pattern);
     let mut first = no_positions();
-    first_places(pattern, &mut first);
+    let mut listed = no_symbols();
+    let symbols = read_pattern(pattern, &mut first, &mut listed);
     flag_all(text, pattern, &first, symbols, s, links, counts, flags);
     let totals = totals_of(pattern, symbols, flags, n);
     let found = totals.found;
@@ -94,7 +94,18 @@ fn search_windows(
     if listing.len() < length {
         return Searched::Refused(Refusal::ListingBufferShort(length));
     }
-    write_listing(text, pattern, &first, s, found, refused, flags, listing);
+    let d = symbols as usize;
+    write_listing(
+        text,
+        pattern,
+        s,
+        &listed[..d],
+        &first,
+        found,
+        refused,
+        flags,
+        listing,
+    );
     Searched::Listed {
         found,
         refused,

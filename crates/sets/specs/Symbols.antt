@@ -63,6 +63,12 @@ pub record MarksOf (xs marks : List ℕ) : Type 0 where
   pub long : length marks ≡ 256
   pub each : (v : ℕ) → v < 256 → getD marks v 0 ≡ pick (contains xs v) 1 0
 
+-- a table with an entry for each symbol: for those that the list has, a place where the symbol stands
+pub record PlacesOf (xs places : List ℕ) : Type 0 where
+  pub long : length places ≡ 256
+  pub each : (k : ℕ) → k < length xs
+      → (getD places (getD xs k 0) 0 < length xs) × (getD xs (getD places (getD xs k 0) 0) 0 ≡ getD xs k 0)
+
 -- n marks from place `at` on as a word, the first as its lowest bit
 pub markWord : List ℕ → ℕ → ℕ → ℕ
 markWord marks at n = wordOf (λ k. eqb (getD marks (at + k) 0) 1) n

@@ -2,14 +2,13 @@
 ghost use mathlib.Core.Path.{_≡_};
 ghost use mathlib.Core.Bool.{false};
 ghost use Prim.Native.Nat.{_≤_, _<_};
-ghost use lib.Dec.{eqb};
-ghost use lib.ListN.{length};
-ghost use Rattle.theory.specs.Test.{pick};
+ghost use lib.Dec.{eqb, ltb};
+ghost use lib.ListN.{length, getD};
+ghost use Rattle.theory.specs.Test.{pick, both};
 ghost use Rattle.theory.specs.Count.{members};
 ghost use Rattle.shapes.specs.Said.{overFront};
-ghost use Rattle.grid.specs.Distinct.{distinct};
-ghost use Rattle.sets.specs.Symbols.{bitOf, wordOf, has, symbolSet, sizeOf, lowestOf, withoutSymbol};
-ghost use Rattle.sets.specs.Symbols.{Marks, MarksOf, markWord};
+ghost use Rattle.sets.specs.Symbols.{bitOf, wordOf, has, setOf, symbolSet, sizeOf, lowestOf};
+ghost use Rattle.sets.specs.Symbols.{withoutSymbol, Marks, MarksOf, PlacesOf, markWord};
 use shapes::tables::no_symbols;
 
 // Bit k of word i is 1 where symbol 64 i + k is in the set.
@@ -112,17 +111,65 @@ fn mark_word(marks: &[u8; 256], from: usize) -> u64
     w
 }
 
+// The set of the symbols that are marked.
+fn symbols_marked(marks: &[u8; 256]) -> Symbols
+    requires { ⌜ Marks (now marks) ⌝ }
+    ensures { λ r. ⌜ r ≡ setOf (λ v. eqb (getD (now (marks .entry)) v 0) 1) ⌝ }
+{
+    Symbols {
+        w0: mark_word(marks, 0),
+        w1: mark_word(marks, 64),
+        w2: mark_word(marks, 128),
+        w3: mark_word(marks, 192),
+    }
+}
+
 // The set of the symbols in a pattern.
 pub fn symbols_of(pattern: &[u8]) -> Symbols
     ensures { λ r. ⌜ r ≡ symbolSet (now (pattern .entry)) ⌝ }
 {
     let marks = marks_of(pattern);
-    Symbols {
-        w0: mark_word(&marks, 0),
-        w1: mark_word(&marks, 64),
-        w2: mark_word(&marks, 128),
-        w3: mark_word(&marks, 192),
+    symbols_marked(&marks)
+}
+
+// 1 where the pattern has symbol v at place p, 0 where it has another one there or ends before it.
+fn mark_at(pattern: &[u8], p: usize, v: usize) -> u8
+    ensures { λ r. ⌜
+        r ≡ pick (both (ltb p (length (now (pattern .entry)))) (eqb (getD (now (pattern .entry)) p 0) v)) 1 0 ⌝ }
+{
+    if pattern.len() <= p {
+        return 0;
     }
+    let x = pattern[p] as usize;
+    if x == v {
+        return 1;
+    }
+    0
+}
+
+// The marks of a pattern by a table that has a place of each of its symbols, in 256 looks at the pattern, however large
+// it is. For a symbol that the pattern does not have the table may have any place: it does not stand there.
+fn marks_by(pattern: &[u8], places: &[usize; 256]) -> [u8; 256]
+    requires { ⌜ PlacesOf (now pattern) (now places) ⌝ }
+    ensures { λ r. ⌜ MarksOf (now (pattern .entry)) r ⌝ }
+{
+    let mut marks = no_symbols();
+    let mut v = 0;
+    while v < 256 {
+        let p = places[v];
+        marks[v] = mark_at(pattern, p, v);
+        v += 1;
+    }
+    marks
+}
+
+// The set of the symbols in a pattern, without a walk through it: for a caller who has a place of each.
+pub fn symbols_placed(pattern: &[u8], places: &[usize; 256]) -> Symbols
+    requires { ⌜ PlacesOf (now pattern) (now places) ⌝ }
+    ensures { λ r. ⌜ r ≡ symbolSet (now (pattern .entry)) ⌝ }
+{
+    let marks = marks_by(pattern, places);
+    symbols_marked(&marks)
 }
 
 // The symbols of a set, rising, at the front of a list: for a walk that is made many times over.
@@ -142,12 +189,4 @@ pub fn list_symbols(symbols: Symbols, listed: &mut [u8; 256]) -> usize
         a = rest.lowest();
     }
     k
-}
-
-// How many different symbols the pattern has.
-pub fn pattern_size(pattern: &[u8]) -> u16
-    requires { ⌜ length (now pattern) ≤ 65025 ⌝ }
-    ensures { λ r. ⌜ r ≡ distinct (now (pattern .entry)) ⌝ }
-{
-    symbols_of(pattern).size() as u16
 }

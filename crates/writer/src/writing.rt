@@ -16,10 +16,7 @@ use crate::strips::write_strips;
 use listing::records::Record;
 use listing::records::write_record;
 use reach::places::no_positions;
-use sets::symbols::list_symbols;
-use sets::symbols::symbols_of;
 use shapes::shapes::Shape;
-use shapes::tables::no_symbols;
 
 // The records of all windows, from the listing's first byte on; the place after them. First those of the found ones in
 // their order, then those of the refused ones strip by strip.
@@ -59,13 +56,14 @@ fn write_windows(
     end
 }
 
-// The second step of the search: the listing from the flags, where there is room for it, with the pattern's first
-// places.
+// The second step of the search: the listing from the flags, where there is room for it, with the pattern's symbols,
+// rising, and their first places.
 pub fn write_listing(
     text: &[u8],
     pattern: &[u8],
-    first: &[usize; 256],
     s: Shape,
+    listed: &[u8],
+    first: &[usize; 256],
     found: u16,
     refused: u16,
     flags: &[u8],
@@ -75,15 +73,13 @@ pub fn write_listing(
         Flagged (now text) (now pattern) s (now flags) × (found ≡ foundIn (asked (now text) (now pattern) s))
         × (refused ≡ refusedIn (asked (now text) (now pattern) s))
         × (length (searchListing (asked (now text) (now pattern) s)) ≤ length (now listing))
+        × (now listed ≡ symbolsOf (now pattern))
         × FirstPlaces (patternAt (now pattern)) (length (now pattern)) (now first) ⌝ }
     ensures { λ r. ⌜
         now (listing .exit) ≡ overFront (searchListing (asked (now (text .entry)) (now (pattern .entry)) s))
         (now (listing .entry)) ⌝ }
 {
-    let symbols = symbols_of(pattern);
-    let mut listed = no_symbols();
-    let d = list_symbols(symbols, &mut listed);
-    let at = write_windows(text, pattern, s, &listed[..d], first, flags, listing);
+    let at = write_windows(text, pattern, s, listed, first, flags, listing);
     let closing = Record::Closing { found, refused };
     write_record(listing, at, closing);
 }

@@ -1,4 +1,5 @@
--- The marks of a pattern, a cell at a time, and the set of its symbols from the marks, a word of 64 at a time.
+-- The marks of a pattern, a cell at a time or by a place of each symbol, and the set of its symbols from the marks, a
+-- word of 64 at a time.
 -- Assumes nothing.
 use mathlib.Core.Path.{_≡_, refl, sym, ap, ap₂, _∙_}
 use mathlib.Core.Bool.{Bool, true, false}
@@ -7,22 +8,23 @@ use Prim.Native.Nat.{ℕ, zero, suc, _+_, _-_, _*_, _^_, _≤_, _<_}
 use native.Mathlib.Nat.{add-zero}
 use native.Mathlib.Numerals.{add-one}
 use native.Mathlib.Omega.{arith}
-use lib.Dec.{eqb}
+use lib.Dec.{eqb, ltb}
 use lib.ListN.{length, getD, set, take, replicate, length-set, length-replicate, getD-replicate}
 use lib.Pow.{pow-mono}
 use lib.Seq.{take-suc, take-all}
 use borrow.Author.Tests.{eq-eqb, ne-eqb}
-use Rattle.theory.specs.Test.{pick, Tested, holds, fails}
-use Rattle.theory.specs.Test.Laws.{pick-true, pick-false, eq-tested}
+use Rattle.theory.specs.Test.{pick, both, Tested}
+use Rattle.theory.specs.Test.Laws.{pick-true, pick-false, eq-tested, lt-tested, both-tested}
+use Rattle.theory.specs.Test.Laws.{is-true, is-false, tested-same, tested-iff}
 use Rattle.theory.specs.Store.Laws.{set-right}
 use Rattle.grid.specs.Distinct.{contains}
-use Rattle.grid.specs.Distinct.Sets.{contains-none, contains-end}
+use Rattle.grid.specs.Distinct.Sets.{contains-none, contains-end, contains-tested}
 use Rattle.sets.specs.declared.symbols.Symbols.{Symbols}
-use Rattle.sets.specs.Symbols.{wordOf, wordIn, symbolSet, Marks, MarksOf, markWord}
+use Rattle.sets.specs.Symbols.{wordOf, wordIn, setOf, symbolSet, Marks, MarksOf, PlacesOf, markWord}
 use Rattle.sets.specs.Symbols.Words.{word-ext, word-below}
-use Rattle.sets.specs.Symbols.Blocks.{words-set}
+use Rattle.sets.specs.Symbols.Blocks.{words-set, set-ext}
 
--- ---- the marks
+-- ---- the marks, a cell at a time
 
 -- no cell yet, and no mark
 pub marks-none : (xs marks : List ℕ) → marks ≡ replicate 256 0 → MarksOf (take 0 xs) marks
@@ -62,6 +64,72 @@ marks-more xs marks i h byte here =
 -- all cells
 pub marks-all : (xs marks : List ℕ) (i : ℕ) → length xs ≤ i → MarksOf (take i xs) marks → MarksOf xs marks
 marks-all xs marks i h here = rw (take-all i xs h) at here
+
+-- ---- the marks from places
+
+-- the code's look at a place, and the three ways out
+module _ (xs : List ℕ) (p v : ℕ) where
+  stands-tested : Tested ((p < length xs) × (getD xs p 0 ≡ v)) (both (ltb p (length xs)) (eqb (getD xs p 0) v))
+  stands-tested = both-tested (lt-tested p (length xs)) (eq-tested (getD xs p 0) v)
+
+  -- what it answers: 1 where the symbol stands there, else 0
+  abbrev mark : ℕ
+  mark = pick (both (ltb p (length xs)) (eqb (getD xs p 0) v)) 1 0
+
+  -- the pattern ends before it
+  pub mark-past : length xs ≤ p → mark ≡ 0
+  mark-past h = pick-false 1 0 (is-false stands-tested over)
+    where
+      over : (p < length xs) × (getD xs p 0 ≡ v) → ⊥
+      over e = omega (arith, e .0)
+
+  -- another symbol stands there
+  pub mark-other : (getD xs p 0 ≡ v → ⊥) → mark ≡ 0
+  mark-other d = pick-false 1 0 (is-false stands-tested (λ e. d (e .1)))
+
+  -- the symbol does
+  pub mark-here : p < length xs → getD xs p 0 ≡ v → mark ≡ 1
+  mark-here h e = pick-true 1 0 (is-true stands-tested (h, e))
+
+-- a symbol stands where the table says exactly if the pattern has it
+place-tells : (xs places : List ℕ) → PlacesOf xs places → (v : ℕ)
+    → both (ltb (getD places v 0) (length xs)) (eqb (getD xs (getD places v 0) 0) v) ≡ contains xs v
+place-tells xs places t v =
+    tested-same
+    (tested-iff (λ h. (getD places v 0, h .0, h .1)) stands
+    (stands-tested xs (getD places v 0) v))
+    (contains-tested xs v)
+  where
+    stands : (i : ℕ) × (i < length xs) × (getD xs i 0 ≡ v)
+        → (getD places v 0 < length xs) × (getD xs (getD places v 0) 0 ≡ v)
+    stands e = rw (← e .2) (t .each (e .0) (e .1))
+
+-- the marks of the symbols below v are there
+pub record MarksBelow (xs : List ℕ) (v : ℕ) (marks : List ℕ) : Type 0 where
+  pub long : length marks ≡ 256
+  pub each : (u : ℕ) → u < v → getD marks u 0 ≡ pick (contains xs u) 1 0
+
+pub below-none : (xs marks : List ℕ) → length marks ≡ 256 → MarksBelow xs 0 marks
+below-none xs marks e = record { long = e; each = λ u h. absurd (none u h) }
+  where
+    none : (u : ℕ) → u < 0 → ⊥
+    none u h = omega arith
+
+-- one more, by the place that the table has for it
+pub below-more : (xs places marks : List ℕ) (v m : ℕ) → PlacesOf xs places → v < 256 → MarksBelow xs v marks
+    → m ≡ pick (both (ltb (getD places v 0) (length xs)) (eqb (getD xs (getD places v 0) 0) v)) 1 0
+    → MarksBelow xs (v + 1) (set marks v m)
+below-more xs places marks v m t small here e =
+    record {
+      long = rw length-set (here .long);
+      each = λ u h. set-right marks v m u (λ w. pick (contains xs w) 1 0) (omega (arith, here .long))
+          (e ∙ ap (λ (b : Bool). pick b 1 0) (place-tells xs places t v)) (λ d. here .each u (omega arith));
+    }
+
+pub below-all : (xs marks : List ℕ) (v : ℕ) → 256 ≤ v → MarksBelow xs v marks → MarksOf xs marks
+below-all xs marks v h here = record { long = here .long; each = λ u l. here .each u (omega arith) }
+
+-- ---- what marks are
 
 -- a pattern's marks are 0 or 1
 pub marks-bits : (xs marks : List ℕ) → MarksOf xs marks → Marks marks
@@ -140,31 +208,27 @@ word-marks-all marks from k w h e = e ∙ ap₂ (markWord marks) place number
 
 -- ---- the set
 
--- four words of a pattern's marks are the set of its symbols
-pub marked-set : (xs marks : List ℕ) → MarksOf xs marks → (a b c d : ℕ) → a ≡ markWord marks 0 64
-    → b ≡ markWord marks 64 64
+-- four words of marks are the set of what is marked
+pub marked-words : (marks : List ℕ) (a b c d : ℕ) → a ≡ markWord marks 0 64 → b ≡ markWord marks 64 64
     → c ≡ markWord marks 128 64
     → d ≡ markWord marks 192 64
-    → _≡_ {A = Symbols} (record { w0 = a; w1 = b; w2 = c; w3 = d }) (symbolSet xs)
+    → _≡_ {A = Symbols} (record { w0 = a; w1 = b; w2 = c; w3 = d }) (setOf (λ v. eqb (getD marks v 0) 1))
 unfolding wordIn markWord
-marked-set xs marks here a b c d p q r s = words-set (record { w0 = a; w1 = b; w2 = c; w3 = d }) (contains xs) word
+marked-words marks a b c d p q r s = words-set (record { w0 = a; w1 = b; w2 = c; w3 = d }) _ word
   where
-    -- a mark says whether the pattern has the symbol
-    said : (v : ℕ) → v < 256 → eqb (getD marks v 0) 1 ≡ contains xs v
-    said v h = ap (λ (m : ℕ). eqb m 1) (here .each v h) ∙ one (contains xs v)
-      where
-        one : (t : Bool) → eqb (pick t 1 0) 1 ≡ t
-        one true = refl
-        one false = refl
-
-    block : (i : ℕ) → i < 4 → wordOf (λ k. eqb (getD marks (64 * i + k) 0) 1) 64
-        ≡ wordOf (λ k. contains xs (64 * i + k)) 64
-    block i h = word-ext _ _ 64 (λ k l. said (64 * i + k) (omega arith))
-
     word : (i : ℕ) → i < 4 → wordIn (record { w0 = a; w1 = b; w2 = c; w3 = d }) i
-        ≡ wordOf (λ k. contains xs (64 * i + k)) 64
-    word zero h = p ∙ block 0 h
-    word (suc zero) h = q ∙ block 1 h
-    word (suc (suc zero)) h = r ∙ block 2 h
-    word (suc (suc (suc zero))) h = s ∙ block 3 h
+        ≡ wordOf (λ k. eqb (getD marks (64 * i + k) 0) 1) 64
+    word zero h = p
+    word (suc zero) h = q
+    word (suc (suc zero)) h = r
+    word (suc (suc (suc zero))) h = s
     word (suc (suc (suc (suc i)))) h = absurd (omega arith)
+
+-- and where the marks are a pattern's, the set of its symbols
+pub marked-set : (xs marks : List ℕ) → MarksOf xs marks → setOf (λ v. eqb (getD marks v 0) 1) ≡ symbolSet xs
+marked-set xs marks here =
+    set-ext _ _ (λ v h. ap (λ (m : ℕ). eqb m 1) (here .each v h) ∙ one (contains xs v))
+  where
+    one : (t : Bool) → eqb (pick t 1 0) 1 ≡ t
+    one true = refl
+    one false = refl

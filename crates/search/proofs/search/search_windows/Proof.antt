@@ -1,33 +1,55 @@
 -- `search::search_windows` meets its contract: the flags are those of all windows, and the number of symbols is the
 -- pattern's, so the totals and the length are right (`totals`), and the listing is written just where there is room for
--- it (`listing-fits`).
+-- it (`listing-fits`), with the pattern's symbols (`front-symbols`).
 -- Assumes nothing.
+use mathlib.Core.Path.{sym}
+use Prim.Native.Nat.{ℕ, _<_}
 use native.Mathlib.Omega.{arith}
+use lib.ListN.{getD}
+use lib.Seq.{length-take-le}
 use denote.Ref.{now}
+use Rattle.theory.specs.Older.Laws.{zeros-long}
 use Rattle.grid.specs.Counts.Laws.{windows-small}
-use Rattle.flags.specs.Flags.Laws.{pattern-small}
 use Rattle.shapes.specs.Questions.{asked}
 use Rattle.search.specs.Search.{lend}
 use Rattle.search.specs.Search.Answers.{says-short, says-listed}
+use Rattle.search.specs.Search.Pattern.{front-symbols, front-inside}
 use Rattle.search.specs.Search.Steps.{Totalled, marked-flags, flags-long, flagged, totalled, listing-fits}
 use borrow.Author.Needs.{needs}
 use Rattle.search.proofs.search.search_windows.Statement.{statement}
 use Rattle.search.proofs.search.search_windows.Tie as tie
 
--- where the call begins
+-- on the way back from where the totals are asked for: the flags are there, the pattern is read, the call begins
+abbrev marking : tie.After-totals-of-arg → tie.After-flag-all
+marking c = c .before .before .before .before .before .before .before
+
+abbrev reading : tie.After-totals-of-arg → tie.After-read-pattern
+reading c = marking c .before .before .before .before .before
+
 abbrev entry : tie.After-totals-of-arg → tie.Start
 entry c =
-    let o = c .before .before .before .before .before .before .before .before .before .before .before .before .before .before .before in
-    o .before .before .before .before .before .before .before .before .before .before .before
+    let r = reading c in
+    r .before .before .before .before .before .before .before .before .before .before .before .before .before .before
+    .before
+
+-- the pattern is bytes
+bytes : (c : tie.After-totals-of-arg) (k : ℕ) → getD (now (entry c .args .pattern)) k 0 < 256
+bytes c k =
+    let r = reading c in
+    let known = r .before .before .before .before .before .before .before .before .before .before .before .before
+    .before in
+    omega (arith, known .shared-slice-known2 .given k)
 
 -- the totals are those of the windows
 totals : (c : tie.After-totals-of) → let a = entry (c .before) .args in
-    Totalled (now (a .text)) (now (a .pattern)) (a .s) (c .totals-of .result .found) (c .totals-of .result .refused) (c .totals-of .result .length)
+    let t = c .totals-of .result in
+    Totalled (now (a .text)) (now (a .pattern)) (a .s) (t .found) (t .refused) (t .length)
 totals c =
     let o = entry (c .before) in
     let a = o .args in
     let e = c .totals-of .ensures in
-    totalled (now (a .text)) (now (a .pattern)) (a .s) _ _ (now (a .flags)) _ (o .pre) (marked-flags _ _ _ (c .before .before .before .before .before .before .before .before .flag-all .ensures)) _ _ _ (e .0) (e .1 .0) (e .1 .1)
+    totalled (now (a .text)) (now (a .pattern)) (a .s) _ _ (now (a .flags)) _ (o .pre)
+    (marked-flags _ _ _ (marking (c .before) .flag-all .ensures)) _ _ _ (e .0) (e .1 .0) (e .1 .1)
 
 add-n : tie.Need-add-n
 add-n c = search needs
@@ -44,15 +66,16 @@ sub-n-2 c = search needs
 mul-n : tie.Need-mul-n
 mul-n c = search needs
 
-pattern-size-requires : tie.Need-pattern-size-requires
-pattern-size-requires c κs =
-    pattern-small _ _ _ _ _ _ (c .before .before .before .before .before .before .before .before .before .before .pre)
-
 no-positions-requires : tie.Need-no-positions-requires
 no-positions-requires c κs = search needs
 
-first-places-requires : tie.Need-first-places-requires
-first-places-requires c κs = search needs
+no-symbols-requires : tie.Need-no-symbols-requires
+no-symbols-requires c κs = search needs
+
+read-pattern-requires : tie.Need-read-pattern-requires
+read-pattern-requires c κs =
+    let n = c .before .before in
+    (zeros-long _ (n .before .no-positions .ensures), zeros-long _ (n .no-symbols .ensures))
 
 flag-all-requires : tie.Need-flag-all-requires
 flag-all-requires c κs = search needs
@@ -60,10 +83,15 @@ flag-all-requires c κs = search needs
 totals-of-requires : tie.Need-totals-of-requires
 totals-of-requires c κs =
     let o = entry c in
-    let a = o .args in (
-      c .before .before .before .before .before .before .before .before .before .before .before .before .before .before .before .pattern-size .ensures,
+    let a = o .args in
+    let flags-are = marked-flags _ _ _ (marking c .flag-all .ensures) in (
+      reading c .read-pattern .ensures .0,
       omega (arith, windows-small (a .s) _ (o .pre .shape)),
-      omega (arith, o .pre .flags-room, flags-long (now (a .text)) (now (a .pattern)) (a .s) _ _ (now (a .flags)) _ (o .pre) (marked-flags _ _ _ (c .before .before .before .before .before .before .before .flag-all .ensures))),
+      omega (
+        arith,
+        o .pre .flags-room,
+        flags-long (now (a .text)) (now (a .pattern)) (a .s) _ _ (now (a .flags)) _ (o .pre) flags-are,
+      ),
     )
 
 same-length : tie.Need-same-length
@@ -77,24 +105,40 @@ same-length-3 c = search needs
 
 returns : tie.Need-returns
 returns c =
-    let o = entry (c .before .before) in
-    let a = o .args in
-    let t = totals (c .before) in
-    let e = c .before .before .before .before .before .before .before .before .before .flag-all .ensures in
-    says-short (asked (now (a .text)) (now (a .pattern)) (a .s)) (lend (now (a .links)) (now (a .counts)) (now (a .flags)) (now (a .listing))) _ e _ (t .size-is) (c .if1 .taken)
+    let t = c .before .before in
+    let a = entry t .args in
+    says-short (asked (now (a .text)) (now (a .pattern)) (a .s))
+    (lend (now (a .links)) (now (a .counts)) (now (a .flags)) (now (a .listing))) _ (marking t .flag-all .ensures) _
+    (totals (c .before) .size-is) (c .if1 .taken)
+
+cast-d : tie.Need-cast-d
+cast-d c = search needs
+
+array-share-prefix-listed : tie.Need-array-share-prefix-listed
+array-share-prefix-listed c =
+    let t = c .before .before in
+    let r = reading t in
+    let e = r .read-pattern .ensures in
+    front-inside _ (bytes t) _ _ _ (e .0) (e .1 .1) (zeros-long _ (r .before .before .before .no-symbols .ensures))
+
+slice-aggregate-write-listing : tie.Need-slice-aggregate-write-listing
+slice-aggregate-write-listing c = sym (length-take-le _ _ (array-share-prefix-listed (c .before)))
 
 write-listing-requires : tie.Need-write-listing-requires
 write-listing-requires c κs =
-    let o = entry (c .before .before .before .before .before) in
+    let test = c .before .before .before .before in
+    let sums = totals (test .before) in
+    let t = test .before .before in
+    let o = entry t in
     let a = o .args in
-    let t = totals (c .before .before .before .before) in (
+    let e = reading t .read-pattern .ensures in (
       flagged (now (a .text)) (now (a .pattern)) (a .s) _ _ (now (a .flags)) _ (o .pre)
-          (marked-flags _ _ _ (c .before .before .before .before .before .before .before .before .before .before .before .before .flag-all .ensures)),
-      t .found-is,
-      t .refused-is,
-      listing-fits (now (a .text)) (now (a .pattern)) (a .s) _ _ _ _ t
-          (λ k. omega (arith, c .before .before .before .before .before .before .before .before .before .before .before .before .before .before .before .before .before .before .before .before .before .before .before .before .before .before .before .before .before .shared-slice-known2 .given k)) (c .before .before .before .if1 .left),
-      c .before .before .before .before .before .before .before .before .before .before .before .before .before .before .before .before .before .first-places .ensures,
+          (marked-flags _ _ _ (marking t .flag-all .ensures)),
+      sums .found-is,
+      sums .refused-is,
+      listing-fits (now (a .text)) (now (a .pattern)) (a .s) _ _ _ _ sums (bytes t) (test .if1 .left),
+      front-symbols _ (bytes t) _ _ _ (e .0) (e .1 .1),
+      e .1 .0,
     )
 
 same-length-4 : tie.Need-same-length-4
@@ -111,13 +155,14 @@ same-length-7 c = search needs
 
 returns-2 : tie.Need-returns-2
 returns-2 c =
-    let o = entry (c .before .before .before .before .before .before .before .before) in
-    let a = o .args in
-    let t = totals (c .before .before .before .before .before .before .before) in
-    let e = c .before .before .before .before .before .before .before .before .before .before .before .before .before .before .before .flag-all .ensures in
+    let test = c .before .before .before .before .before .before .before in
+    let sums = totals (test .before) in
+    let t = test .before .before in
+    let a = entry t .args in
     says-listed (asked (now (a .text)) (now (a .pattern)) (a .s))
-    (lend (now (a .links)) (now (a .counts)) (now (a .flags)) (now (a .listing))) _ e _ _ _ _ (t .found-is)
-    (t .refused-is) (t .size-is) (c .before .before .before .before .before .before .if1 .left) (c .before .before .write-listing .ensures)
+    (lend (now (a .links)) (now (a .counts)) (now (a .flags)) (now (a .listing))) _ (marking t .flag-all .ensures) _ _ _
+    _ (sums .found-is) (sums .refused-is) (sums .size-is) (test .if1 .left)
+    (c .before .before .write-listing .ensures)
 
 pub search-windows-spec : {M : Type 1} → statement M
 search-windows-spec =
@@ -128,15 +173,18 @@ search-windows-spec =
     add-n-2
     sub-n-2
     mul-n
-    pattern-size-requires
     no-positions-requires
-    first-places-requires
+    no-symbols-requires
+    read-pattern-requires
     flag-all-requires
     totals-of-requires
     same-length
     same-length-2
     same-length-3
     returns
+    cast-d
+    array-share-prefix-listed
+    slice-aggregate-write-listing
     write-listing-requires
     same-length-4
     same-length-5

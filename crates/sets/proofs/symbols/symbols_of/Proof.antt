@@ -1,43 +1,20 @@
--- `symbols::symbols_of` meets its contract: the marks are the pattern's, so their four words of 64 are the set of its
+-- `symbols::symbols_of` meets its contract: the marks are the pattern's, so the set of what is marked is that of its
 -- symbols (`marked-set`).
 -- Assumes nothing.
-use native.Mathlib.Omega.{arith}
-use denote.Ref.{now}
+use mathlib.Core.Path.{_∙_}
+use borrow.Author.Needs.{needs}
 use Rattle.sets.specs.Symbols.Marking.{marks-bits, marked-set}
 use Rattle.sets.proofs.symbols.symbols_of.Statement.{statement}
 use Rattle.sets.proofs.symbols.symbols_of.Tie as tie
 
 marks-of-requires : tie.Need-marks-of-requires
-marks-of-requires c κs = tt
+marks-of-requires c κs = search needs
 
-mark-word-requires : tie.Need-mark-word-requires
-mark-word-requires c κs = (marks-bits _ _ (c .before .marks-of .ensures), omega arith)
-
-mark-word-requires-2 : tie.Need-mark-word-requires-2
-mark-word-requires-2 c κs = (marks-bits _ _ (c .before .before .before .marks-of .ensures), omega arith)
-
-mark-word-requires-3 : tie.Need-mark-word-requires-3
-mark-word-requires-3 c κs = (marks-bits _ _ (c .before .before .before .before .before .marks-of .ensures), omega arith)
-
-mark-word-requires-4 : tie.Need-mark-word-requires-4
-mark-word-requires-4 c κs =
-    (marks-bits _ _ (c .before .before .before .before .before .before .before .marks-of .ensures), omega arith)
+symbols-marked-requires : tie.Need-symbols-marked-requires
+symbols-marked-requires c κs = marks-bits _ _ (c .before .marks-of .ensures)
 
 returns : tie.Need-returns
-returns c =
-    let third = c .before .before in
-    let second = third .before .before in
-    let first = second .before .before in
-    marked-set _ _ (first .before .before .marks-of .ensures) _ _ _ _
-    (first .mark-word .ensures) (second .mark-word2 .ensures) (third .mark-word3 .ensures) (c .mark-word4 .ensures)
+returns c = c .symbols-marked .ensures ∙ marked-set _ _ (c .before .before .marks-of .ensures)
 
 pub symbols-of-spec : {M : Type 1} → statement M
-symbols-of-spec =
-    tie.close
-    (tie.spec
-    marks-of-requires
-    mark-word-requires
-    mark-word-requires-2
-    mark-word-requires-3
-    mark-word-requires-4
-    returns)
+symbols-of-spec = tie.close (tie.spec marks-of-requires symbols-marked-requires returns)
