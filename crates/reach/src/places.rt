@@ -4,7 +4,8 @@ ghost use Prim.Native.Nat.{_<_};
 ghost use lib.ListN.{length, getD, replicate};
 ghost use Rattle.prefixes.specs.State.{FirstPlaces};
 
-// The pattern's symbol at a position. Comparisons read the pattern here and nowhere else.
+// The pattern's symbol at a position. What the search compares of the pattern it reads here; only what is made of
+// the pattern once a search (first places, pairs of cells alike) goes through the cells themselves.
 pub fn pattern_at(pattern: &[u8], p: usize) -> u8
     requires { ⌜ p < length (now pattern) ⌝ }
     ensures { λ r. ⌜ r ≡ getD (now (pattern .entry)) p 0 ⌝ }

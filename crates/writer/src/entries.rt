@@ -19,6 +19,7 @@ use listing::records::MismatchBody;
 use listing::records::Place;
 use listing::records::Record;
 use listing::records::write_record;
+use reach::places::pattern_at;
 use shapes::shapes::Shape;
 use shapes::windows::WindowPlace;
 
@@ -154,7 +155,7 @@ pub fn write_refused(
         now (listing .exit) ≡ written (now (listing .entry)) at
         (bytesAll (entryAt (now (text .entry)) (now (pattern .entry)) v)) ⌝ }
 {
-    let alike = pattern[earlier] == pattern[later];
+    let alike = pattern_at(pattern, earlier) == pattern_at(pattern, later);
     let item = mismatch_record(v, alike, earlier, later);
     write_record(listing, at, item)
 }

@@ -27,13 +27,6 @@ use Rattle.matching.specs.Compare.{patternAt}
 use Rattle.flags.specs.Observations.{flag-match}
 use Rattle.flags.specs.Flags.{windowFlag, linkAgrees, linksAgree, flagBy, Room}
 
--- a pattern is small
-pub pattern-small : (cells patternCells : ℕ) (s : Shape) (links counts flags : ℕ)
-    → Room cells patternCells s links counts flags → patternCells ≤ 65025
-pattern-small cells patternCells s links counts flags r =
-    let v = r .shape in
-    omega (arith, r .size, product-le (s .height) (s .width) 255 255 (omega arith) (omega arith))
-
 -- ---- a strip
 
 -- the rows of a window are rows of the strip

@@ -1,10 +1,11 @@
 -- `entries::write_refused` meets its contract: the mismatch ends inside, since the pattern does not match
 -- (`end-inside`), and the record of the two cells is the window's (`refused-bytes`).
 -- Assumes nothing.
-use mathlib.Core.Path.{_≡_, refl, ap, _∙_}
+use mathlib.Core.Path.{_≡_, ap, ap₂, _∙_}
 use native.Mathlib.Omega.{arith}
 use mathlib.Core.List.{List}
 use Prim.Native.Nat.{ℕ, _+_, _<_}
+use lib.Dec.{eqb}
 use lib.ListN.{length}
 use denote.Ref.{now}
 use Rattle.theory.specs.Match.{earliest}
@@ -45,15 +46,15 @@ bytes : (c : tie.After-mismatch-record) →
 bytes c =
     let o = c .before .before .before .before .before .before in
     refused-bytes (now (o .args .text)) (o .args .v) (now (o .args .pattern)) (o .pre .0) _ _ (o .pre .1 .end-is) _ _
-    (earlier-is o) refl
+    (earlier-is o) (ap₂ eqb (c .before .before .pattern-at .ensures) (c .before .pattern-at2 .ensures))
     (c .mismatch-record .ensures)
 
-shared-slice-read-alike : tie.Need-shared-slice-read-alike
-shared-slice-read-alike c = let o = c .before .before .before .before in omega (arith, earlier-in o, o .pre .0 .size)
+pattern-at-requires : tie.Need-pattern-at-requires
+pattern-at-requires c κs = let o = c .before .before .before in omega (arith, earlier-in o, o .pre .0 .size)
 
-shared-slice-read-alike-2 : tie.Need-shared-slice-read-alike-2
-shared-slice-read-alike-2 c =
-    let o = c .before .before .before .before .before in omega (arith, later-inside o, o .pre .0 .size)
+pattern-at-requires-2 : tie.Need-pattern-at-requires-2
+pattern-at-requires-2 c κs =
+    let o = c .before .before .before .before in omega (arith, later-inside o, o .pre .0 .size)
 
 mismatch-record-requires : tie.Need-mismatch-record-requires
 mismatch-record-requires c κs =
@@ -80,8 +81,8 @@ pub write-refused-spec : {M : Type 1} → statement M
 write-refused-spec =
     tie.close
     (tie.spec
-    shared-slice-read-alike
-    shared-slice-read-alike-2
+    pattern-at-requires
+    pattern-at-requires-2
     mismatch-record-requires
     write-record-requires
     same-length

@@ -17,28 +17,34 @@ Inv-loop pattern columns width listed first offsets₀ d k₀ offsets k =
 abbrev μ-loop : tie.MeasureT-loop
 μ-loop pattern columns width listed first offsets₀ d k₀ offsets k = d - k
 
+abbrev entry : tie.After-p Inv-loop μ-loop → tie.Start Inv-loop μ-loop
+entry c = c .before .before .before .before .before .before
+
 -- the symbol is a byte, and the pattern has it
-symbol-byte : (c : tie.After-shared-slice-known Inv-loop μ-loop) →
-    getD (now (c .before .before .before .args .listed)) (c .before .before .loop .k) 0 < 256
+symbol-byte : (c : tie.After-shared-slice-known3 Inv-loop μ-loop) →
+    getD (now (c .before .before .before .before .before .args .listed)) (c .before .before .loop .k) 0 < 256
 symbol-byte c =
-    let o = c .before .before .before in listed-symbol (now (o .args .pattern)) (now (o .args .listed)) (o .pre .4)
-    (c .before .before .loop .k) (omega (arith, c .before .loop-test .taken)) .0
+    let o = c .before .before .before .before .before in
+    listed-symbol (now (o .args .pattern)) (now (o .args .listed)) (o .pre .4) (c .before .before .loop .k)
+    (omega (arith, c .before .loop-test .taken)) .0
 
 -- what the table of first places has of it
 place-is : (c : tie.After-p Inv-loop μ-loop) →
-    let a = c .before .before .before .before .args in
+    let a = entry c .args in
     let x = getD (now (a .listed)) (c .before .before .before .loop .k) 0 in
     getD (now (a .first)) x 0 ≡ firstPlace (now (a .pattern)) x
-place-is c = let o = c .before .before .before .before in
+place-is c =
+    let o = entry c in
     place-listed (now (o .args .pattern)) (now (o .args .first)) (o .pre .5) _
     (listed-symbol (now (o .args .pattern)) (now (o .args .listed)) (o .pre .4)
     (c .before .before .before .loop .k) (omega (arith, c .before .before .loop-test .taken)) .1)
 
 -- it lies in the pattern, whose positions are small numbers
 small : (c : tie.After-p Inv-loop μ-loop) →
-    let a = c .before .before .before .before .args in
+    let a = entry c .args in
     getD (now (a .first)) (getD (now (a .listed)) (c .before .before .before .loop .k) 0) 0 ≤ 65025
-small c = let o = c .before .before .before .before in
+small c =
+    let o = entry c in
     let a = o .args in
     let s = place-stands (now (a .pattern)) _ (listed-symbol (now (a .pattern)) (now (a .listed)) (o .pre .4)
     (c .before .before .before .loop .k) (omega (arith, c .before .before .loop-test .taken)) .1) in
@@ -47,7 +53,7 @@ small c = let o = c .before .before .before .before in
 -- there is an entry for it
 few : (c : tie.After-p Inv-loop μ-loop) → c .before .before .before .loop .k < 256
 few c =
-    let o = c .before .before .before .before in
+    let o = entry c in
     omega (
       arith,
       c .before .before .loop-test .taken,
@@ -56,7 +62,7 @@ few c =
     )
 
 loop-holds : tie.Need-loop-holds Inv-loop μ-loop
-loop-holds c = (omega arith, offsets-none _ _ _ _ _ (c .pre .6))
+loop-holds c = (omega arith, offsets-none _ _ _ _ _ (c .before .before .pre .6))
 
 shared-slice-read-symbol : tie.Need-shared-slice-read-symbol Inv-loop μ-loop
 shared-slice-read-symbol c = omega (arith, c .before .loop-test .taken)
@@ -71,7 +77,7 @@ element-copy-out-p : tie.Need-element-copy-out-p Inv-loop μ-loop
 element-copy-out-p c = symbol-byte c
 
 cell-offset-requires : tie.Need-cell-offset-requires Inv-loop μ-loop
-cell-offset-requires c κs = let o = c .before .before .before .before in (o .pre .0, o .pre .2, small c)
+cell-offset-requires c κs = let o = entry c in (o .pre .0, o .pre .2, small c)
 
 mul-offsets : tie.Need-mul-offsets Inv-loop μ-loop
 mul-offsets c = omega (arith, few (c .before))
@@ -87,7 +93,7 @@ loop-less c = omega (arith, c .before .before .before .loop-test .taken)
 
 loop-again : tie.Need-loop-again Inv-loop μ-loop
 loop-again c = let i = c .before in
-    let o = i .before .before .before .before in
+    let o = entry i in
     let a = o .args in
     let l = i .before .before .before .loop in (
       omega (arith, i .before .before .loop-test .taken),
@@ -96,7 +102,7 @@ loop-again c = let i = c .before in
     )
 
 returns : tie.Need-returns Inv-loop μ-loop
-returns c = let o = c .before .before in
+returns c = let o = c .before .before .before .before in
     let l = c .before .loop in offsets-all _ _ _ _ _ (l .k) (o .pre .4) (l .inv .1) (omega (arith, c .loop-test .left))
 
 pub list-offsets-spec : {M : Type 1} → statement M
