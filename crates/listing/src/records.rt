@@ -4,7 +4,9 @@ ghost use mathlib.Core.List.{[], _∷_};
 ghost use Prim.Native.Nat.{_+_, _≤_};
 ghost use lib.ListN.{length};
 ghost use Rattle.theory.specs.Written.{written};
+ghost use Rattle.theory.specs.Test.{pick};
 ghost use Rattle.listing.specs.Records.{bytesOf, mismatchBytes};
+ghost use Rattle.listing.specs.Entries.{mismatchRecord};
 
 // A place by row and column: a window's corner in the text, or a cell in the pattern.
 pub struct Place {
@@ -67,6 +69,29 @@ fn put_mismatch(listing: &mut [u8], at: usize, kind: u8, body: MismatchBody)
     listing[at + 4] = body.earlier.column;
     listing[at + 5] = body.later.row;
     listing[at + 6] = body.later.column;
+}
+
+// The kind of a refused window's record: 3 where the two cells are alike in the pattern, 4 where they are in the window.
+fn mismatch_kind(alike: bool) -> u8
+    ensures { λ r. ⌜ r ≡ pick alike 3 4 ⌝ }
+{
+    if alike {
+        return 3;
+    }
+    4
+}
+
+// Writes a refused window's record by the side that is alike, which only the text tells; the place after it. A `Record`
+// that is chosen so would go through memory first, and that costs more than its seven bytes.
+pub fn write_mismatch(listing: &mut [u8], at: usize, alike: bool, body: MismatchBody) -> usize
+    requires { ⌜ at + 7 ≤ length (now listing) ⌝ }
+    ensures { λ r. ⌜ r ≡ at + 7 ⌝ }
+    ensures { λ r. ⌜
+        now (listing .exit) ≡ written (now (listing .entry)) at (bytesOf (mismatchRecord alike body)) ⌝ }
+{
+    let kind = mismatch_kind(alike);
+    put_mismatch(listing, at, kind, body);
+    at + 7
 }
 
 // Writes a record's bytes at a place, where there is room for them; the place after it.

@@ -7,7 +7,7 @@ ghost use Rattle.theory.specs.Test.{pick};
 ghost use Rattle.matching.specs.Compare.{patternAt, windowOf, cellCount, Placed};
 ghost use Rattle.matching.specs.Windows.{SmallPlace};
 ghost use Rattle.theory.specs.Written.{written};
-ghost use Rattle.listing.specs.Entries.{bytesAll, cellAt, mismatchBodyAt, mismatchRecord};
+ghost use Rattle.listing.specs.Entries.{bytesAll, cellAt, mismatchBodyAt};
 ghost use Rattle.writer.specs.Listing.{entryAt};
 ghost use Rattle.prefixes.specs.Prefixes.{EndIs};
 ghost use Rattle.sets.specs.Symbols.{symbolsOf};
@@ -18,6 +18,7 @@ ghost use Rattle.writer.specs.Listing.Strips.{stripWindow};
 use listing::records::MismatchBody;
 use listing::records::Place;
 use listing::records::Record;
+use listing::records::write_mismatch;
 use listing::records::write_record;
 use reach::places::pattern_at;
 use shapes::shapes::Shape;
@@ -116,23 +117,19 @@ fn cell_of(v: WindowPlace, p: usize) -> Place
     }
 }
 
-// The record of a refused window: kind 3 where the cells are alike in the pattern, else kind 4.
-fn mismatch_record(v: WindowPlace, alike: bool, earlier: usize, later: usize) -> Record
+// The window and the two cells of a refused window's record.
+fn mismatch_body(v: WindowPlace, earlier: usize, later: usize) -> MismatchBody
     requires { ⌜ SmallPlace v × (earlier < cellCount v) × (later < cellCount v) ⌝ }
-    ensures { λ r. ⌜ r ≡ mismatchRecord alike (mismatchBodyAt (v .row) (v .column) (v .width) earlier later) ⌝ }
+    ensures { λ r. ⌜ r ≡ mismatchBodyAt (v .row) (v .column) (v .width) earlier later ⌝ }
 {
-    let body = MismatchBody {
+    MismatchBody {
         window: Place {
             row: v.row as u8,
             column: v.column as u8,
         },
         earlier: cell_of(v, earlier),
         later: cell_of(v, later),
-    };
-    if alike {
-        return Record::AlikeInPattern(body);
     }
-    Record::AlikeInWindow(body)
 }
 
 // The record of a window that the pattern does not match: later is the first position at which a mismatch ends, earlier
@@ -156,8 +153,8 @@ pub fn write_refused(
         (bytesAll (entryAt (now (text .entry)) (now (pattern .entry)) v)) ⌝ }
 {
     let alike = pattern_at(pattern, earlier) == pattern_at(pattern, later);
-    let item = mismatch_record(v, alike, earlier, later);
-    write_record(listing, at, item)
+    let body = mismatch_body(v, earlier, later);
+    write_mismatch(listing, at, alike, body)
 }
 
 // The records of a window whose flag says that it is found, and none of another; in either case the place behind its

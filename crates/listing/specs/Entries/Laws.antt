@@ -15,7 +15,8 @@ use Rattle.theory.specs.Match.{Maps, matched, mismatched}
 use Rattle.sets.specs.Symbols.{symbolsOf}
 use Rattle.grid.specs.Distinct.{contains}
 use Rattle.grid.specs.Distinct.Sets.{contains-tested}
-use Rattle.listing.specs.Records.{bytesOf}
+use Rattle.theory.specs.Test.{pick}
+use Rattle.listing.specs.Records.{bytesOf, mismatchBytes}
 use Rattle.listing.specs.declared.records.MismatchBody.{MismatchBody}
 use Rattle.listing.specs.declared.records.Record.{Record}
 use Rattle.listing.specs.declared.records.Record.the-variants.{Found, Pair, AlikeInPattern, AlikeInWindow}
@@ -87,11 +88,10 @@ right-pairs pattern w n image bytes maps =
 -- ---- entries
 
 -- the kind by the side alike
-pub kind-alike : (alike : Bool) (body : MismatchBody) → alike ≡ true → AlikeInPattern body ≡ mismatchRecord alike body
-kind-alike alike body e = rw e
-
-pub kind-unlike : (alike : Bool) (body : MismatchBody) → alike ≡ false → AlikeInWindow body ≡ mismatchRecord alike body
-kind-unlike alike body e = rw e
+pub kind-bytes : (alike : Bool) (body : MismatchBody) (kind : ℕ) → kind ≡ pick alike 3 4
+    → kind ∷ mismatchBytes body ≡ bytesOf (mismatchRecord alike body)
+kind-bytes true body kind e = rw e
+kind-bytes false body kind e = rw e
 
 module _ (row column width : ℕ) (symbols : List ℕ) (image : ℕ → ℕ) where
   pub entry-found : entryOf row column width symbols image matched ≡ Found row column ∷ pairsOf image symbols

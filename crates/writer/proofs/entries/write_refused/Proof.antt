@@ -3,7 +3,6 @@
 -- Assumes nothing.
 use mathlib.Core.Path.{_≡_, ap, ap₂, _∙_}
 use native.Mathlib.Omega.{arith}
-use mathlib.Core.List.{List}
 use Prim.Native.Nat.{ℕ, _+_, _<_}
 use lib.Dec.{eqb}
 use lib.ListN.{length}
@@ -13,16 +12,12 @@ use Rattle.prefixes.specs.Prefixes.Ends.{inside-earlier}
 use Rattle.matching.specs.Compare.{patternAt, windowOf, cellCount}
 use Rattle.listing.specs.Records.{bytesOf}
 use Rattle.theory.specs.Written.{written}
-use Rattle.listing.specs.Entries.{bytesAll}
+use Rattle.listing.specs.Entries.{bytesAll, mismatchRecord}
 use Rattle.writer.specs.Listing.{entryAt}
-use Rattle.writer.specs.Listing.Entries.{end-inside, earlier-inside, refused-bytes}
+use Rattle.writer.specs.Listing.Entries.{end-inside, earlier-inside, refused-bytes, refused-length}
 use borrow.Author.Needs.{needs}
 use Rattle.writer.proofs.entries.write_refused.Statement.{statement}
 use Rattle.writer.proofs.entries.write_refused.Tie as tie
-use Rattle.writer.proofs.entries.write_refused.Reads as reads
-use Rattle.writer.proofs.entries.write_refused.Lts as lts
-use Rattle.listing.proofs.records.write_record.Reads as write-record-reads
-use Rattle.writer.proofs.entries.mismatch_record.Reads as mismatch-record-reads
 
 -- the mismatch ends inside
 later-inside : (o : tie.Start) → o .args .later < cellCount (o .args .v)
@@ -40,14 +35,21 @@ earlier-in o =
     (o .args .earlier) (o .pre .1 .end-is) (earlier-is o)
 
 -- the record's bytes are those of the window
-bytes : (c : tie.After-mismatch-record) →
-    let a = c .before .before .before .before .before .before .args in bytesOf (c .mismatch-record .result)
+bytes : (c : tie.After-mismatch-body) →
+    let a = c .before .before .before .before .before .before .args in
+    bytesOf (mismatchRecord (eqb (c .before .before .pattern-at .result) (c .before .pattern-at2 .result))
+    (c .mismatch-body .result))
     ≡ bytesAll (entryAt (now (a .text)) (now (a .pattern)) (a .v))
 bytes c =
     let o = c .before .before .before .before .before .before in
-    refused-bytes (now (o .args .text)) (o .args .v) (now (o .args .pattern)) (o .pre .0) _ _ (o .pre .1 .end-is) _ _
+    let alike = eqb (c .before .before .pattern-at .result) (c .before .pattern-at2 .result) in
+    refused-bytes (now (o .args .text)) (o .args .v) (now (o .args .pattern)) (o .pre .0) _ _ (o .pre .1 .end-is) alike _
     (earlier-is o) (ap₂ eqb (c .before .before .pattern-at .ensures) (c .before .pattern-at2 .ensures))
-    (c .mismatch-record .ensures)
+    (ap (mismatchRecord alike) (c .mismatch-body .ensures))
+
+-- there are seven of them
+sized : (o : tie.Start) → 7 ≡ length (bytesAll (entryAt (now (o .args .text)) (now (o .args .pattern)) (o .args .v)))
+sized o = refused-length (now (o .args .text)) (o .args .v) (now (o .args .pattern)) (o .pre .0 .none)
 
 pattern-at-requires : tie.Need-pattern-at-requires
 pattern-at-requires c κs = let o = c .before .before .before in omega (arith, earlier-in o, o .pre .0 .size)
@@ -56,25 +58,23 @@ pattern-at-requires-2 : tie.Need-pattern-at-requires-2
 pattern-at-requires-2 c κs =
     let o = c .before .before .before .before in omega (arith, later-inside o, o .pre .0 .size)
 
-mismatch-record-requires : tie.Need-mismatch-record-requires
-mismatch-record-requires c κs =
+mismatch-body-requires : tie.Need-mismatch-body-requires
+mismatch-body-requires c κs =
     let o = c .before .before .before .before .before in (o .pre .0 .small, earlier-in o, later-inside o)
 
-write-record-requires : tie.Need-write-record-requires
-write-record-requires c κs =
-    let o = c .before .before .before .before .before .before .before in
-    omega (arith, ap length (bytes (c .before)), o .pre .2)
+write-mismatch-requires : tie.Need-write-mismatch-requires
+write-mismatch-requires c κs =
+    let o = c .before .before .before .before .before .before .before in omega (arith, sized o, o .pre .2)
 
 same-length : tie.Need-same-length
 same-length c = search needs
 
 returns : tie.Need-returns
 returns c =
-    let w = c .before .before .write-record .ensures in
-    let e = bytes (c .before .before .before .before) in (
-      w .0 ∙ ap (λ (xs : List ℕ). c .before .before .before .before .before .before .before .before .before .before .args
-          .at + length xs) e,
-      w .1 ∙ ap (written _ _) e,
+    let w = c .before .before .write-mismatch .ensures in
+    let o = c .before .before .before .before .before .before .before .before .before .before in (
+      w .0 ∙ ap (λ (n : ℕ). o .args .at + n) (sized o),
+      w .1 ∙ ap (written _ _) (bytes (c .before .before .before .before)),
     )
 
 pub write-refused-spec : {M : Type 1} → statement M
@@ -83,7 +83,7 @@ write-refused-spec =
     (tie.spec
     pattern-at-requires
     pattern-at-requires-2
-    mismatch-record-requires
-    write-record-requires
+    mismatch-body-requires
+    write-mismatch-requires
     same-length
     returns)
