@@ -1,15 +1,20 @@
 -- `windows::cell_offset` meets its contract; what is left is that the numbers are small.
 -- Assumes nothing.
 use Prim.Native.Nat.{_*_, _/_, _%_, _≤_}
-use native.Mathlib.Nat.{div-le-self, mod-le}
+use native.Mathlib.Nat.{div-le-self, div-add-mod', mod-le}
 use native.Mathlib.Omega.{arith}
 use Rattle.shapes.specs.Shapes.Laws.{product-le}
 use borrow.Author.Needs.{needs}
 use Rattle.shapes.proofs.windows.cell_offset.Statement.{statement}
 use Rattle.shapes.proofs.windows.cell_offset.Tie as tie
 
-small : (c : tie.Start) → c .args .p / c .args .width * c .args .columns ≤ 65025 * 255
-small c = product-le _ _ 65025 255 (omega (arith, div-le-self (c .args .p) (c .args .width), c .pre .2)) (c .pre .1)
+-- rows by the text's columns, and also by the pattern's width
+small : (c : tie.Start) → (c .args .p / c .args .width * c .args .columns ≤ 65025 * 255)
+    × (c .args .p / c .args .width * c .args .width ≤ 65025)
+small c = (
+  product-le _ _ 65025 255 (omega (arith, div-le-self (c .args .p) (c .args .width), c .pre .2)) (c .pre .1),
+  omega (arith, div-add-mod' (c .args .p) (c .args .width), c .pre .2),
+)
 
 div-result : tie.Need-div-result
 div-result c = search needs

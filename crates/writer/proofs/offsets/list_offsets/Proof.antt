@@ -77,7 +77,7 @@ element-copy-out-p : tie.Need-element-copy-out-p Inv-loop μ-loop
 element-copy-out-p c = symbol-byte c
 
 cell-offset-requires : tie.Need-cell-offset-requires Inv-loop μ-loop
-cell-offset-requires c κs = let o = entry c in (o .pre .0, o .pre .2, small c)
+cell-offset-requires c κs = let o = entry c in (o .pre .0, omega (arith, o .pre .1, o .pre .2), small c)
 
 mul-offsets : tie.Need-mul-offsets Inv-loop μ-loop
 mul-offsets c = omega (arith, few (c .before))
