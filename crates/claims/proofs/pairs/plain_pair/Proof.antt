@@ -1,22 +1,12 @@
 -- `pairs::plain_pair` meets its contract: behind the four tests the pair is plain, and before them nothing is written.
 -- Assumes nothing.
-use mathlib.Core.Path.{refl, sym}
+use mathlib.Core.Path.{refl, sym, _∙_}
 use mathlib.Core.Bool.{false≢true}
-use Prim.Native.Nat.{_+_, _<_}
 use native.Mathlib.Omega.{arith}
-use lib.ListN.{getD}
-use denote.Ref.{now}
+use Prim.Native.Nat.{_+_}
 use borrow.Author.Needs.{needs}
 use Rattle.claims.proofs.pairs.plain_pair.Statement.{statement}
 use Rattle.claims.proofs.pairs.plain_pair.Tie as tie
-
--- the pair's second symbol is a byte
-byte : (c : tie.After-shared-slice-known4)
-    → getD (now (c .before .before .before .before .before .before .args .listing))
-    (c .before .before .before .before .before .before .args .at + 2) 0 < 256
-byte c =
-    let o = c .before .before .before .before .before .before in
-    omega (arith, c .before .shared-slice-known3 .given (o .args .at + 2))
 
 shared-slice-read-if1 : tie.Need-shared-slice-read-if1
 shared-slice-read-if1 c = search needs
@@ -39,52 +29,42 @@ add-b c = search needs
 shared-slice-read-b : tie.Need-shared-slice-read-b
 shared-slice-read-b c = search needs
 
-mul-image : tie.Need-mul-image
-mul-image c = search needs
-
-shared-slice-read-image : tie.Need-shared-slice-read-image
-shared-slice-read-image c = search needs
-
-cast-wanted : tie.Need-cast-wanted
-cast-wanted c = omega (arith, byte c)
-
-add-wanted : tie.Need-add-wanted
-add-wanted c =
-    let o = c .before .before .before .before .before .before in
-    omega (arith, byte c, o .pre .2)
+image-of-requires : tie.Need-image-of-requires
+image-of-requires c κs = search needs
 
 returns-3 : tie.Need-returns-3
 returns-3 c = (λ e. absurd (false≢true e), λ _. refl)
 
 cast-if4 : tie.Need-cast-if4
-cast-if4 c = omega (arith, byte (c .before))
+cast-if4 c = search needs
 
 mul-if4 : tie.Need-mul-if4
-mul-if4 c = omega (arith, byte (c .before))
+mul-if4 c = search needs
 
 element-copy-out-if4 : tie.Need-element-copy-out-if4
-element-copy-out-if4 c = omega (arith, byte (c .before))
+element-copy-out-if4 c = search needs
 
 returns-4 : tie.Need-returns-4
 returns-4 c = (λ e. absurd (false≢true e), λ _. refl)
 
 cast-given : tie.Need-cast-given
-cast-given c = omega (arith, byte (c .before .before .before))
+cast-given c = search needs
 
 mul-given : tie.Need-mul-given
-mul-given c = omega (arith, byte (c .before .before .before))
+mul-given c = search needs
 
 element-write-given : tie.Need-element-write-given
-element-write-given c = omega (arith, byte (c .before .before .before))
+element-write-given c = search needs
 
 returns-5 : tie.Need-returns-5
 returns-5 c =
-    let k = c .before .before in (
+    let i = c .before .before .before in
+    let o = i .before .before .before .before .before .before .before .before in (
       (λ _. record {
-        kind = k .before .before .before .before .before .if1 .left;
-        symbol = k .before .before .before .if2 .left;
-        byte = byte (k .before);
-        image = k .if3 .left;
+        kind = i .before .before .before .before .if1 .left;
+        symbol = i .before .before .if2 .left;
+        byte = omega (arith, i .before .shared-slice-known5 .given (o .args .at + 2));
+        image = sym (i .image-of .ensures) ∙ c .before .before .if3 .left;
         fresh = c .if4 .left;
         marked = refl;
       }),
@@ -102,10 +82,7 @@ plain-pair-spec =
     returns-2
     add-b
     shared-slice-read-b
-    mul-image
-    shared-slice-read-image
-    cast-wanted
-    add-wanted
+    image-of-requires
     returns-3
     cast-if4
     mul-if4
