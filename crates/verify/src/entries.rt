@@ -80,7 +80,7 @@ pub fn read_entry(
         (now (selves .exit)) (now (tops .exit)) ⌝ }
 {
     let cursor = Cursor { at };
-    let Read::Whole(item, next) = cursor.read(listing) else {
+    let Read::Whole(item, next) = cursor.read_found_first(listing) else {
         return Walk::Stops(Refusal::ListingForm(at));
     };
     let other = Walk::Stops(Refusal::ListingForm(at));

@@ -52,6 +52,11 @@ pair-stands listing at e h =
     let size : kindSize (getD listing at 0) ≡ 3 = rw e refl in
     is-true (stands-tested listing at 2) (e, record { known = omega arith; within = omega arith })
 
+-- two bytes in one number say both
+pub head-says : (kind symbol a : ℕ) → kind < 256 → symbol < 256 → kind + symbol * 256 ≡ 2 + a * 256
+    → (kind ≡ 2) × (symbol ≡ a)
+head-says kind symbol a h k e = (omega arith, omega arith)
+
 -- a plain pair is read as one that is right
 plain-read : (text : List ℕ) (v : WindowPlace) (pattern : List ℕ) (corner : ℕ) (offsets : List ℕ) (base a : ℕ)
     (listing : List ℕ) (at : ℕ) (given old new : List ℕ)

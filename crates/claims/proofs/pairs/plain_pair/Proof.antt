@@ -1,27 +1,57 @@
--- `pairs::plain_pair` meets its contract: behind the four tests the pair is plain, and before them nothing is written.
+-- `pairs::plain_pair` meets its contract: behind the three tests the pair is plain, and before them nothing is written.
+-- Kind and symbol are bytes, so that their number says both (`head-says`).
 -- Assumes nothing.
 use mathlib.Core.Path.{refl, sym, _∙_}
 use mathlib.Core.Bool.{false≢true}
 use native.Mathlib.Omega.{arith}
-use Prim.Native.Nat.{_+_}
+use Prim.Native.Nat.{_+_, _<_}
+use lib.ListN.{getD}
 use borrow.Author.Needs.{needs}
+use denote.Ref.{now}
+use Rattle.claims.specs.Pairs.Plain.{head-says}
 use Rattle.claims.proofs.pairs.plain_pair.Statement.{statement}
 use Rattle.claims.proofs.pairs.plain_pair.Tie as tie
 
-shared-slice-read-if1 : tie.Need-shared-slice-read-if1
-shared-slice-read-if1 c = search needs
+-- the pair's three numbers are bytes
+bytes : (c : tie.After-shared-slice-known4) → let a = c .before .before .before .before .args in
+    (getD (now (a .listing)) (a .at) 0 < 256) × (getD (now (a .listing)) (a .at + 1) 0 < 256)
+    × (getD (now (a .listing)) (a .at + 2) 0 < 256)
+bytes c =
+    let a = c .before .before .before .before .args in (
+      omega (arith, c .shared-slice-known4 .given (a .at)),
+      omega (arith, c .shared-slice-known4 .given (a .at + 1)),
+      omega (arith, c .shared-slice-known4 .given (a .at + 2)),
+    )
+
+shared-slice-read-head : tie.Need-shared-slice-read-head
+shared-slice-read-head c = search needs
+
+cast-head : tie.Need-cast-head
+cast-head c = omega (arith, c .shared-slice-known3 .given (c .before .before .before .args .at))
+
+add-head : tie.Need-add-head
+add-head c = search needs
+
+shared-slice-read-head-2 : tie.Need-shared-slice-read-head-2
+shared-slice-read-head-2 c = search needs
+
+cast-head-2 : tie.Need-cast-head-2
+cast-head-2 c = omega (arith, bytes c .0, bytes c .1, bytes c .2)
+
+mul-head : tie.Need-mul-head
+mul-head c = omega (arith, bytes c .0, bytes c .1, bytes c .2)
+
+add-head-2 : tie.Need-add-head-2
+add-head-2 c = omega (arith, bytes c .0, bytes c .1, bytes c .2)
+
+mul-if1 : tie.Need-mul-if1
+mul-if1 c = search needs
+
+add-if1 : tie.Need-add-if1
+add-if1 c = search needs
 
 returns : tie.Need-returns
 returns c = (λ e. absurd (false≢true e), λ _. refl)
-
-add-if2 : tie.Need-add-if2
-add-if2 c = search needs
-
-shared-slice-read-if2 : tie.Need-shared-slice-read-if2
-shared-slice-read-if2 c = search needs
-
-returns-2 : tie.Need-returns-2
-returns-2 c = (λ e. absurd (false≢true e), λ _. refl)
 
 add-b : tie.Need-add-b
 add-b c = search needs
@@ -32,20 +62,20 @@ shared-slice-read-b c = search needs
 image-of-requires : tie.Need-image-of-requires
 image-of-requires c κs = search needs
 
+returns-2 : tie.Need-returns-2
+returns-2 c = (λ e. absurd (false≢true e), λ _. refl)
+
+cast-if3 : tie.Need-cast-if3
+cast-if3 c = search needs
+
+mul-if3 : tie.Need-mul-if3
+mul-if3 c = search needs
+
+element-copy-out-if3 : tie.Need-element-copy-out-if3
+element-copy-out-if3 c = search needs
+
 returns-3 : tie.Need-returns-3
 returns-3 c = (λ e. absurd (false≢true e), λ _. refl)
-
-cast-if4 : tie.Need-cast-if4
-cast-if4 c = search needs
-
-mul-if4 : tie.Need-mul-if4
-mul-if4 c = search needs
-
-element-copy-out-if4 : tie.Need-element-copy-out-if4
-element-copy-out-if4 c = search needs
-
-returns-4 : tie.Need-returns-4
-returns-4 c = (λ e. absurd (false≢true e), λ _. refl)
 
 cast-given : tie.Need-cast-given
 cast-given c = search needs
@@ -56,16 +86,18 @@ mul-given c = search needs
 element-write-given : tie.Need-element-write-given
 element-write-given c = search needs
 
-returns-5 : tie.Need-returns-5
-returns-5 c =
+returns-4 : tie.Need-returns-4
+returns-4 c =
     let i = c .before .before .before in
-    let o = i .before .before .before .before .before .before .before .before in (
+    let t = i .before .before in
+    let b = bytes (t .before) in
+    let head = head-says _ _ _ (b .0) (b .1) (t .if1 .left) in (
       (λ _. record {
-        kind = i .before .before .before .before .if1 .left;
-        symbol = i .before .before .if2 .left;
-        byte = omega (arith, i .before .shared-slice-known5 .given (o .args .at + 2));
-        image = sym (i .image-of .ensures) ∙ c .before .before .if3 .left;
-        fresh = c .if4 .left;
+        kind = head .0;
+        symbol = head .1;
+        byte = b .2;
+        image = sym (i .image-of .ensures) ∙ c .before .before .if2 .left;
+        fresh = c .if3 .left;
         marked = refl;
       }),
       (λ e. absurd (false≢true (sym e))),
@@ -75,20 +107,25 @@ pub plain-pair-spec : {M : Type 1} → statement M
 plain-pair-spec =
     tie.close
     (tie.spec
-    shared-slice-read-if1
+    shared-slice-read-head
+    cast-head
+    add-head
+    shared-slice-read-head-2
+    cast-head-2
+    mul-head
+    add-head-2
+    mul-if1
+    add-if1
     returns
-    add-if2
-    shared-slice-read-if2
-    returns-2
     add-b
     shared-slice-read-b
     image-of-requires
+    returns-2
+    cast-if3
+    mul-if3
+    element-copy-out-if3
     returns-3
-    cast-if4
-    mul-if4
-    element-copy-out-if4
-    returns-4
     cast-given
     mul-given
     element-write-given
-    returns-5)
+    returns-4)

@@ -27,10 +27,10 @@ whole : (c : tie.After-item) (r : Record) → c .item .given .0 .0 ≡ r → let
 whole c r e =
     let a = entry c .args in
     subst (λ (s : Record). readSaid (Whole s (next c)) ≡ cursorSaid (now (a .listing)) (a .at)) e
-    (sym (ap readSaid (c .item .given .1)) ∙ c .before .before .read .ensures)
+    (sym (ap readSaid (c .item .given .1)) ∙ c .before .before .read-found-first .ensures)
 
-read-requires : tie.Need-read-requires
-read-requires c κs = search needs
+read-found-first-requires : tie.Need-read-found-first-requires
+read-found-first-requires c κs = search needs
 
 enum-known-item : tie.Need-enum-known-item
 enum-known-item c = search needs
@@ -43,7 +43,7 @@ returns c =
     let o = c .before .before .before .before .before .before .before in
     let a = o .args in (
       entry-none (now (a .text)) (now (a .pattern)) (a .v) (now (a .listing)) (a .at) (c .enum-told .given .0 .0)
-          (sym (ap readSaid (c .enum-told .given .1)) ∙ c .before .before .read .ensures),
+          (sym (ap readSaid (c .enum-told .given .1)) ∙ c .before .before .read-found-first .ensures),
       (older-next (a .base) (now (a .given)) (o .pre .3), o .pre .4),
     )
 
@@ -142,7 +142,7 @@ pub read-entry-spec : {M : Type 1} → statement M
 read-entry-spec =
     tie.close
     (tie.spec
-    read-requires
+    read-found-first-requires
     enum-known-item
     enum-told
     returns
