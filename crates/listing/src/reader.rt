@@ -156,8 +156,7 @@ impl Cursor {
         self.read(listing)
     }
 
-    // The same, for a caller that waits for a window: where a byte of kind 1 stands, as most do where windows are found,
-    // the other kinds are not asked after.
+    // The same, for a caller that waits for a window: where a byte of kind 1 stands, no other kind is asked after.
     pub fn read_found_first(self, listing: &[u8]) -> Read
         ensures { λ r. ⌜ readSaid r ≡ cursorSaid (now (listing .entry)) (self .at) ⌝ }
     {

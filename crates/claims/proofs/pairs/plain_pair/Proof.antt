@@ -66,25 +66,25 @@ returns-2 : tie.Need-returns-2
 returns-2 c = (λ e. absurd (false≢true e), λ _. refl)
 
 cast-if3 : tie.Need-cast-if3
-cast-if3 c = search needs
+cast-if3 c = omega (arith, bytes (c .before .before .before .before) .2)
 
 mul-if3 : tie.Need-mul-if3
-mul-if3 c = search needs
+mul-if3 c = omega (arith, bytes (c .before .before .before .before) .2)
 
 element-copy-out-if3 : tie.Need-element-copy-out-if3
-element-copy-out-if3 c = search needs
+element-copy-out-if3 c = omega (arith, bytes (c .before .before .before .before) .2)
 
 returns-3 : tie.Need-returns-3
 returns-3 c = (λ e. absurd (false≢true e), λ _. refl)
 
 cast-given : tie.Need-cast-given
-cast-given c = search needs
+cast-given c = omega (arith, bytes (c .before .before .before .before .before .before) .2)
 
 mul-given : tie.Need-mul-given
-mul-given c = search needs
+mul-given c = omega (arith, bytes (c .before .before .before .before .before .before) .2)
 
 element-write-given : tie.Need-element-write-given
-element-write-given c = search needs
+element-write-given c = omega (arith, bytes (c .before .before .before .before .before .before) .2)
 
 returns-4 : tie.Need-returns-4
 returns-4 c =
