@@ -1,11 +1,10 @@
 -- Plain pairs: those of a window that follows the pattern, as they are where nothing is wrong. A plain pair stands in
 -- the listing and is right, so the walk goes on behind it, and its symbol is marked.
 -- Assumes nothing.
-use mathlib.Core.Path.{_≡_, refl, sym, _∙_, ap}
+use mathlib.Core.Path.{_≡_, refl, sym, _∙_}
 use mathlib.Core.Bool.{Bool, true}
 use mathlib.Core.List.{List, []}
 use Prim.Native.Nat.{ℕ, _+_, _-_, _*_, _/_, _≤_, _<_}
-use native.Mathlib.Nat.{div-lt-iff-lt-mul}
 use native.Mathlib.Omega.{arith}
 use lib.ListN.{length, getD, set, length-set}
 use borrow.Author.Tests.{eq-eqb}
@@ -16,7 +15,7 @@ use Rattle.sets.specs.Symbols.{symbolsOf}
 use Rattle.shapes.specs.declared.windows.WindowPlace.{WindowPlace}
 use Rattle.matching.specs.Compare.{patternAt, windowOf, cellCount}
 use Rattle.listing.specs.Records.{kindSize}
-use Rattle.claims.specs.Claims.{stands, hasImage, pairsFrom}
+use Rattle.claims.specs.Claims.{stands, pairsFrom}
 use Rattle.claims.specs.Claims.Standing.{stands-tested}
 use Rattle.claims.specs.declared.walks.Walk.the-variants.{Goes}
 use Rattle.claims.specs.Pairs.{FoundWindow, Marked, PairRead, image-carried}

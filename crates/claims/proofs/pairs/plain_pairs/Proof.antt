@@ -1,6 +1,6 @@
 -- `pairs::plain_pairs` meets its contract. The invariant: the first k pairs are plain, and the next begins at end.
 -- Assumes nothing.
-use mathlib.Core.Path.{_≡_, refl, sym}
+use mathlib.Core.Path.{_≡_, refl}
 use mathlib.Core.Bool.{true}
 use Prim.Native.Nat.{_+_, _-_, _*_, _≤_}
 use native.Mathlib.Nat.{add-zero}
