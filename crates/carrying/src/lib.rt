@@ -2,3 +2,4 @@
 // the check, and no operation of its own.
 pub mod carries;
 mod inherit;
+pub mod offsets;

@@ -14,6 +14,7 @@ use lib.ListN.{length, getD}
 use Rattle.theory.specs.Older.{Older}
 use Rattle.grid.specs.Distinct.{contains}
 use Rattle.grid.specs.Distinct.Sets.{contains-tested}
+use Rattle.sets.specs.Symbols.{symbolsOf}
 use Rattle.shapes.specs.declared.refusals.Refusal.the-variants.{ListingForm, ListingFalse}
 use Rattle.matching.specs.Compare.{patternAt, windowOf, cellCount, Placed}
 use Rattle.shapes.specs.declared.windows.WindowPlace.{WindowPlace}
@@ -21,18 +22,23 @@ use Rattle.theory.specs.Test.{pick, both, Tested, holds, fails}
 use Rattle.theory.specs.Test.Laws.{eq-tested, lt-tested, tested-iff, tested-same, is-true, is-false, says-true}
 use Rattle.theory.specs.First.Laws.{every-tested}
 use Rattle.carrying.specs.Carries.{Carried}
+use Rattle.carrying.specs.Inheritance.{Follows}
+use Rattle.carrying.specs.Inheritance.Laws.{follows-carried}
+use Rattle.carrying.specs.Offsets.{cornerOf, imageBehind, Offsets, ImagesInside}
+use Rattle.carrying.specs.Offsets.Laws.{offset-inside, inside-listed}
 use Rattle.claims.specs.Claims.{orStop, byteAt, stands, hasImage, rightPair}
 use Rattle.claims.specs.declared.walks.Walk.the-variants.{Goes}
 use Rattle.claims.specs.declared.walks.Walk.{Walk}
 
--- a window that stands as found, and the images that its cells give, where they carry the pattern
-pub record FoundWindow (text : List ℕ) (v : WindowPlace) (pattern : List ℕ) (carried : Bool) (base : ℕ)
-    (images : List ℕ) : Type 0 where
+-- a window that stands as found, the offsets that lead from its corner to its symbols' images, and whether it is known
+-- to follow the pattern
+pub record FoundWindow (text : List ℕ) (v : WindowPlace) (pattern : List ℕ) (carried : Bool) (corner : ℕ)
+    (offsets : List ℕ) : Type 0 where
   pub placed : Placed text v
   pub size : length pattern ≡ cellCount v
-  pub long : length images ≡ 256
-  pub small : base ≤ 16777216
-  pub carries : carried ≡ true → Carried base (patternAt pattern) (windowOf text v) (cellCount v) images
+  pub corner-is : corner ≡ cornerOf v
+  pub leads : Offsets pattern (v .columns) (v .width) offsets
+  pub follows : carried ≡ true → Follows (patternAt pattern) (windowOf text v) (cellCount v)
 
 -- just the symbols given are marked with base
 pub record Marked (base : ℕ) (given marks : List ℕ) : Type 0 where
@@ -86,24 +92,44 @@ module _ (m w : ℕ → ℕ) (a b : ℕ) where
   pub image-other : (p n : ℕ) → p < n → m p ≡ a → (w p ≡ b → ⊥) → hasImage m w n a b ≡ false
   image-other p n h e d = is-false (has-image-tested m w n a b) (λ all. d (all p h e))
 
--- where the images carry, the image of a symbol that the pattern has says it: one cell has the symbol, so the image is
--- that cell's, and every other one's
-pub image-carried : (base : ℕ) (pattern : List ℕ) (w : ℕ → ℕ) (n : ℕ) (images : List ℕ) (a b : ℕ) → length pattern ≡ n
-    → contains pattern a ≡ true
-    → Carried base (patternAt pattern) w n images
-    → eqb (getD images a 0) (base + b) ≡ hasImage (patternAt pattern) w n a b
-image-carried base pattern w n images a b size has c =
-    tested-same (tested-iff there back (eq-tested (getD images a 0) (base + b)))
-    (has-image-tested (patternAt pattern) w n a b)
+-- where the window follows the pattern, the image of a symbol that the pattern has says it: one cell has the symbol, so
+-- the image is that cell's, and every other one's
+pub image-carried : (text : List ℕ) (v : WindowPlace) (pattern : List ℕ) (carried : Bool) (corner : ℕ)
+    (offsets : List ℕ) (a b x : ℕ) → FoundWindow text v pattern carried corner offsets → carried ≡ true
+    → contains pattern a ≡ true → x ≡ imageBehind text corner offsets a
+    → eqb x b ≡ hasImage (patternAt pattern) (windowOf text v) (cellCount v) a b
+image-carried text v pattern carried corner offsets a b x found says has x-is =
+    tested-same (tested-iff there back (eq-tested x b))
+    (has-image-tested (patternAt pattern) (windowOf text v) (cellCount v) a b)
   where
-    image : (p : ℕ) → p < n → getD pattern p 0 ≡ a → getD images a 0 ≡ base + w p
-    image p h e = ap (λ (x : ℕ). getD images x 0) (sym e) ∙ c .carries p h
+    cells : Carried text (cornerOf v) offsets (patternAt pattern) (windowOf text v) (cellCount v)
+    cells =
+        follows-carried text v pattern offsets (cellCount v) (found .leads) (omega (arith, found .size))
+        (found .follows says)
 
-    there : getD images a 0 ≡ base + b → (p : ℕ) → p < n → getD pattern p 0 ≡ a → w p ≡ b
-    there e p h d = omega (arith, image p h d)
+    image : (p : ℕ) → p < cellCount v → getD pattern p 0 ≡ a → x ≡ windowOf text v p
+    image p h e =
+        x-is ∙ ap (λ (k : ℕ). imageBehind text k offsets a) (found .corner-is)
+        ∙ ap (imageBehind text (cornerOf v) offsets) (sym e) ∙ cells .carries p h
 
-    back : ((p : ℕ) → p < n → getD pattern p 0 ≡ a → w p ≡ b) → getD images a 0 ≡ base + b
+    there : x ≡ b → (p : ℕ) → p < cellCount v → getD pattern p 0 ≡ a → windowOf text v p ≡ b
+    there e p h d = sym (image p h d) ∙ e
+
+    back : ((p : ℕ) → p < cellCount v → getD pattern p 0 ≡ a → windowOf text v p ≡ b) → x ≡ b
     back all =
         let cell = says-true (contains-tested pattern a) has in
-        let inside : cell .0 < n = omega (arith, cell .1) in
-        image (cell .0) inside (cell .2) ∙ ap (λ (x : ℕ). base + x) (all (cell .0) inside (cell .2))
+        let inside : cell .0 < cellCount v = omega (arith, cell .1, found .size) in
+        image (cell .0) inside (cell .2) ∙ all (cell .0) inside (cell .2)
+
+-- the image lies in the text
+module _ (text : List ℕ) (v : WindowPlace) (pattern : List ℕ) (carried : Bool) (corner : ℕ) (offsets : List ℕ)
+    (found : FoundWindow text v pattern carried corner offsets) where
+  pub image-inside : (a : ℕ) → contains pattern a ≡ true → corner + getD offsets a 0 < length text
+  image-inside a has =
+      rw (found .corner-is) (offset-inside text v pattern offsets (found .placed) (found .size) (found .leads) a has)
+
+  -- and so do those of the listed symbols
+  pub symbols-inside : (symbols : List ℕ) → symbols ≡ symbolsOf pattern → ImagesInside text corner offsets symbols
+  symbols-inside symbols e =
+      rw (found .corner-is)
+      (inside-listed text v pattern offsets (found .placed) (found .size) (found .leads) symbols e)

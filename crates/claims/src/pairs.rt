@@ -2,18 +2,21 @@
 ghost use mathlib.Core.Path.{_≡_};
 ghost use mathlib.Core.Bool.{true, false};
 ghost use mathlib.Core.List.{List, []};
-ghost use Prim.Native.Nat.{ℕ, _+_, _*_, _≤_};
-ghost use lib.ListN.{length};
+ghost use Prim.Native.Nat.{ℕ, _+_, _*_, _≤_, _<_};
+ghost use lib.ListN.{length, getD};
 ghost use Rattle.theory.specs.Older.{Older};
 ghost use Rattle.grid.specs.Distinct.{contains};
 ghost use Rattle.sets.specs.Symbols.{symbolsOf};
 ghost use Rattle.matching.specs.Compare.{patternAt, windowOf, cellCount, Placed};
 ghost use Rattle.claims.specs.Claims.{hasImage, pairsFrom};
-ghost use Rattle.carrying.specs.Inheritance.{Above};
+ghost use Rattle.carrying.specs.Inheritance.{Lent};
+ghost use Rattle.carrying.specs.Offsets.{ImagesInside};
 ghost use Rattle.claims.specs.Pairs.{FoundWindow, Marked, PairRead};
 ghost use Rattle.claims.specs.Pairs.Plain.{PlainPair, PlainTo};
 use crate::walks::Walk;
 use carrying::carries::carries;
+use carrying::offsets::image_of;
+use carrying::offsets::make_offsets;
 use listing::reader::Cursor;
 use listing::reader::Read;
 use listing::records::Record;
@@ -39,25 +42,25 @@ fn all_cells_have(text: &[u8], v: WindowPlace, pattern: &[u8], a: u8, b: u8) -> 
     true
 }
 
-// The same for a symbol of the pattern. Where the images carry the pattern onto the window, the symbol's image says it;
-// the long way is walked only in a window that stands as found and is not, and there some pair is false.
+// The same for a symbol of the pattern. Where the window is carried, the symbol's image says it; the long way is walked
+// only in a window that stands as found and is not carried, and there some pair is false.
 fn has_image(
     text: &[u8],
     v: WindowPlace,
     pattern: &[u8],
     carried: bool,
-    base: u32,
-    images: &[u32],
+    corner: usize,
+    offsets: &[usize; 257],
     a: u8,
     b: u8,
 ) -> bool
     requires { ⌜
-        FoundWindow (now text) v (now pattern) carried base (now images) × (contains (now pattern) a ≡ true) ⌝ }
+        FoundWindow (now text) v (now pattern) carried corner (now offsets) × (contains (now pattern) a ≡ true) ⌝ }
     ensures { λ r. ⌜
         r ≡ hasImage (patternAt (now (pattern .entry))) (windowOf (now (text .entry)) v) (cellCount v) a b ⌝ }
 {
     if carried {
-        return images[a as usize] == base + b as u32;
+        return image_of(text, corner, offsets, a) == b;
     }
     all_cells_have(text, v, pattern, a, b)
 }
@@ -69,15 +72,16 @@ fn read_pair(
     v: WindowPlace,
     pattern: &[u8],
     carried: bool,
+    corner: usize,
+    offsets: &[usize; 257],
     base: u32,
-    images: &[u32],
     given: &mut [u32; 256],
     a: u8,
     listing: &[u8],
     at: usize,
 ) -> Walk
     requires { ⌜
-        FoundWindow (now text) v (now pattern) carried base (now images) × (contains (now pattern) a ≡ true)
+        FoundWindow (now text) v (now pattern) carried corner (now offsets) × (contains (now pattern) a ≡ true)
         × (length (now given) ≡ 256) ⌝ }
     ensures { λ r. ⌜
         ((before : List ℕ) → Marked base before (now (given .entry))
@@ -101,7 +105,7 @@ fn read_pair(
     if given[y as usize] == base {
         return Walk::Stops(Refusal::ListingFalse(at));
     }
-    if !has_image(text, v, pattern, carried, base, images, a, y) {
+    if !has_image(text, v, pattern, carried, corner, offsets, a, y) {
         return Walk::Stops(Refusal::ListingFalse(at));
     }
     given[y as usize] = base;
@@ -109,33 +113,33 @@ fn read_pair(
 }
 
 // The pair at a place as nearly every pair is: the wanted symbol, with its image, which no pair before it gave. It is
-// marked then. What says false here decides nothing: the pair is then read with all that can be wrong with it.
+// marked then. What says false here decides nothing: the pair is then read with all that can be wrong with it. Kind and
+// symbol are compared as one number, which costs one read of the listing in place of two.
 fn plain_pair(
+    text: &[u8],
+    corner: usize,
+    offsets: &[usize; 257],
     base: u32,
-    images: &[u32],
     given: &mut [u32; 256],
     a: u8,
     listing: &[u8],
     at: usize,
 ) -> bool
     requires { ⌜
-        (length (now images) ≡ 256) × (length (now given) ≡ 256) × (base ≤ 16777216)
-        × (at + 3 ≤ length (now listing)) ⌝ }
+        (length (now offsets) ≡ 257) × (corner + getD (now offsets) a 0 < length (now text))
+        × (length (now given) ≡ 256) × (at + 3 ≤ length (now listing)) ⌝ }
     ensures { λ r. ⌜
-        (r ≡ true → PlainPair base (now (images .entry)) (now (given .entry)) a (now (listing .entry)) at
-        (now (given .exit))) ⌝ }
+        (r ≡ true → PlainPair (now (text .entry)) corner (now (offsets .entry)) base (now (given .entry)) a
+        (now (listing .entry)) at (now (given .exit))) ⌝ }
     ensures { λ r. ⌜ (r ≡ false → now (given .exit) ≡ now (given .entry)) ⌝ }
 {
-    if listing[at] != 2 {
-        return false;
-    }
-    if listing[at + 1] != a {
+    let head = listing[at] as u32 + listing[at + 1] as u32 * 256;
+    if head != 2 + a as u32 * 256 {
         return false;
     }
     let b = listing[at + 2];
-    let image = images[a as usize];
-    let wanted = base + b as u32;
-    if image != wanted {
+    let image = image_of(text, corner, offsets, a);
+    if image != b {
         return false;
     }
     if given[b as usize] == base {
@@ -145,21 +149,23 @@ fn plain_pair(
     true
 }
 
-// How many pairs are plain, from the first on, in a window that the images carry: all of them, unless something is
-// wrong. So the usual pair costs no reading of a record and no choice between refusals.
+// How many pairs are plain, from the first on, in a window that is carried: all of them, unless something is wrong. So
+// the usual pair costs no reading of a record and no choice between refusals.
 fn plain_pairs(
+    text: &[u8],
     carried: bool,
+    corner: usize,
+    offsets: &[usize; 257],
     base: u32,
-    images: &[u32],
     given: &mut [u32; 256],
     symbols: &[u8],
     listing: &[u8],
     at: usize,
 ) -> usize
-    requires { ⌜ (length (now images) ≡ 256) × (length (now given) ≡ 256) × (base ≤ 16777216) ⌝ }
+    requires { ⌜ ImagesInside (now text) corner (now offsets) (now symbols) × (length (now given) ≡ 256) ⌝ }
     ensures { λ r. ⌜
-        PlainTo carried base (now (images .entry)) (now (symbols .entry)) (now (listing .entry)) at
-        (now (given .entry)) r (at + 3 * r) (now (given .exit)) ⌝ }
+        PlainTo (now (text .entry)) carried corner (now (offsets .entry)) base (now (symbols .entry))
+        (now (listing .entry)) at (now (given .entry)) r (at + 3 * r) (now (given .exit)) ⌝ }
     ensures { λ r. ⌜ at + 3 * r ≤ 18446744073709551615 ⌝ }
 {
     let n = symbols.len();
@@ -175,7 +181,7 @@ fn plain_pairs(
     let mut end = at;
     let mut k = 0;
     while k < n {
-        if !plain_pair(base, images, given, symbols[k], listing, end) {
+        if !plain_pair(text, corner, offsets, base, given, symbols[k], listing, end) {
             return k;
         }
         end += 3;
@@ -190,22 +196,33 @@ fn read_pairs(
     v: WindowPlace,
     pattern: &[u8],
     carried: bool,
+    corner: usize,
+    offsets: &[usize; 257],
     base: u32,
-    images: &[u32],
     given: &mut [u32; 256],
     symbols: &[u8],
     listing: &[u8],
     at: usize,
 ) -> Walk
     requires { ⌜
-        FoundWindow (now text) v (now pattern) carried base (now images) × (now symbols ≡ symbolsOf (now pattern))
+        FoundWindow (now text) v (now pattern) carried corner (now offsets) × (now symbols ≡ symbolsOf (now pattern))
         × Older base (now given) ⌝ }
     ensures { λ r. ⌜
         r ≡ pairsFrom (patternAt (now (pattern .entry))) (windowOf (now (text .entry)) v) (cellCount v)
         (now (listing .entry)) (symbolsOf (now (pattern .entry))) [] at ⌝ }
     ensures { λ r. ⌜ Older (base + 256) (now (given .exit)) ⌝ }
 {
-    let mut i = plain_pairs(carried, base, images, given, symbols, listing, at);
+    let mut i = plain_pairs(
+        text,
+        carried,
+        corner,
+        offsets,
+        base,
+        given,
+        symbols,
+        listing,
+        at,
+    );
     let mut end = at + 3 * i;
     while i < symbols.len() {
         let a = symbols[i];
@@ -214,8 +231,9 @@ fn read_pairs(
             v,
             pattern,
             carried,
+            corner,
+            offsets,
             base,
-            images,
             given,
             a,
             listing,
@@ -237,9 +255,8 @@ pub fn found_pairs(
     pattern: &[u8],
     symbols: &[u8],
     base: u32,
-    images: &mut [u32; 256],
     given: &mut [u32; 256],
-    offsets: &mut [usize; 256],
+    offsets: &mut [usize; 257],
     selves: &mut [usize; 256],
     tops: &mut [usize; 256],
     listing: &[u8],
@@ -247,35 +264,32 @@ pub fn found_pairs(
 ) -> Walk
     requires { ⌜
         Placed (now text) v × (length (now pattern) ≡ cellCount v) × (now symbols ≡ symbolsOf (now pattern))
-        × (length (now images) ≡ 256) × Older base (now given) × (base ≤ 16777216)
-        × Above (now text) (now pattern) (v .columns) (v .height) (v .width) (now offsets) (now selves) (now tops) ⌝ }
+        × Older base (now given)
+        × Lent (now text) (now pattern) (v .columns) (v .height) (v .width) (now offsets) (now selves) (now tops) ⌝ }
     ensures { λ r. ⌜
         r ≡ pairsFrom (patternAt (now (pattern .entry))) (windowOf (now (text .entry)) v) (cellCount v)
         (now (listing .entry)) (symbolsOf (now (pattern .entry))) [] at ⌝ }
     ensures { λ r. ⌜ Older (base + 256) (now (given .exit)) ⌝ }
-    ensures { λ r. ⌜ length (now (images .exit)) ≡ 256 ⌝ }
     ensures { λ r. ⌜
-        Above (now (text .entry)) (now (pattern .entry)) (v .columns) (v .height) (v .width) (now (offsets .exit))
+        Lent (now (text .entry)) (now (pattern .entry)) (v .columns) (v .height) (v .width) (now (offsets .exit))
         (now (selves .exit)) (now (tops .exit)) ⌝ }
 {
-    let carried = carries(
-        text,
-        v,
-        pattern,
-        symbols,
-        base,
-        images,
-        offsets,
-        selves,
-        tops,
-    );
+    let columns = v.columns;
+    let height = v.height;
+    let width = v.width;
+    let row = v.row;
+    let column = v.column;
+    let corner = row * columns + column;
+    make_offsets(pattern, symbols, columns, height, width, offsets);
+    let carried = carries(text, v, pattern, offsets, selves, tops);
     read_pairs(
         text,
         v,
         pattern,
         carried,
+        corner,
+        offsets,
         base,
-        images,
         given,
         symbols,
         listing,

@@ -155,4 +155,17 @@ impl Cursor {
         }
         self.read(listing)
     }
+
+    // The same, for a caller that waits for a window: where a byte of kind 1 stands, no other kind is asked after.
+    pub fn read_found_first(self, listing: &[u8]) -> Read
+        ensures { λ r. ⌜ readSaid r ≡ cursorSaid (now (listing .entry)) (self .at) ⌝ }
+    {
+        let at = self.at;
+        if at < listing.len() {
+            if listing[at] == 1 {
+                return read_found(listing, at);
+            }
+        }
+        self.read(listing)
+    }
 }

@@ -22,7 +22,8 @@ use Rattle.matching.specs.Windows.{windowPlace}
 use Rattle.matching.specs.Windows.Laws.{placed-window}
 use Rattle.shapes.specs.declared.windows.WindowPlace.{WindowPlace}
 use Rattle.sweep.specs.Sweep.{SidesOf}
-use Rattle.carrying.specs.Inheritance.{Above}
+use Rattle.carrying.specs.Inheritance.{Lent}
+use Rattle.carrying.specs.Offsets.Laws.{prepared-none}
 use Rattle.claims.specs.declared.walks.Walk.{Walk}
 use Rattle.claims.specs.declared.walks.Walk.the-variants.{Goes, Stops}
 use Rattle.verify.specs.Check.{entryFrom, placeIn, windowsTo, standsFound, foundTo}
@@ -97,23 +98,25 @@ window-asks text pattern s shape size k h v e =
     subst (λ (u : WindowPlace). Placed text u × (length pattern ≡ cellCount u)) (sym e)
     (placed-window text s shape k h, size)
 
--- ---- what windows leave to those below them
+-- ---- what is kept from window to window
 
--- before the first window nothing is left, and nothing is made
-pub above-none : (text pattern : List ℕ) (columns height width : ℕ) (offsets selves tops : List ℕ)
-    → SidesOf pattern height width → columns ≤ 255 → offsets ≡ replicate 256 0 → selves ≡ replicate 256 0
+-- before the first window nothing is
+pub lent-none : (text pattern : List ℕ) (columns height width : ℕ) (offsets selves tops : List ℕ)
+    → SidesOf pattern height width → columns ≤ 255 → offsets ≡ replicate 257 0 → selves ≡ replicate 256 0
     → tops ≡ replicate 256 0
-    → Above text pattern columns height width offsets selves tops
-above-none text pattern columns height width offsets selves tops sides narrow f s t =
+    → Lent text pattern columns height width offsets selves tops
+lent-none text pattern columns height width offsets selves tops sides narrow f s t =
     record {
-      sides = sides;
-      narrow = narrow;
-      tops-are = record { long = older-zeros 1 tops (omega arith) t .long; each = λ j h. absurd (none tops t j h) };
-      owned = record {
-        offsets-long = older-zeros 1 offsets (omega arith) f .long;
-        long = older-zeros 1 selves (omega arith) s .long;
-        made = λ h. absurd (none selves s 0 h);
+      above = record {
+        sides = sides;
+        narrow = narrow;
+        tops-are = record { long = older-zeros 1 tops (omega arith) t .long; each = λ j h. absurd (none tops t j h) };
+        owned = record {
+          long = older-zeros 1 selves (omega arith) s .long;
+          made = λ h. absurd (none selves s 0 h);
+        };
       };
+      prepared = prepared-none pattern columns width offsets f;
     }
   where
     none : (l : List ℕ) → l ≡ replicate 256 0 → (j : ℕ) → 0 < getD l j 0 → ⊥
@@ -122,13 +125,13 @@ above-none text pattern columns height width offsets selves tops sides narrow f 
 module _ (text pattern : List ℕ) (columns height width k : ℕ) (v : WindowPlace) (offsets selves tops : List ℕ)
     (e : v ≡ windowPlace columns height width k) where
   -- what is known of the text is known to window k
-  pub above-window : Above text pattern columns height width offsets selves tops
-      → Above text pattern (v .columns) (v .height) (v .width) offsets selves tops
-  above-window a =
-      subst (λ (u : WindowPlace). Above text pattern (u .columns) (u .height) (u .width) offsets selves tops) (sym e) a
+  pub lent-window : Lent text pattern columns height width offsets selves tops
+      → Lent text pattern (v .columns) (v .height) (v .width) offsets selves tops
+  lent-window a =
+      subst (λ (u : WindowPlace). Lent text pattern (u .columns) (u .height) (u .width) offsets selves tops) (sym e) a
 
   -- and the other way round
-  pub above-place : Above text pattern (v .columns) (v .height) (v .width) offsets selves tops
-      → Above text pattern columns height width offsets selves tops
-  above-place a =
-      subst (λ (u : WindowPlace). Above text pattern (u .columns) (u .height) (u .width) offsets selves tops) e a
+  pub lent-place : Lent text pattern (v .columns) (v .height) (v .width) offsets selves tops
+      → Lent text pattern columns height width offsets selves tops
+  lent-place a =
+      subst (λ (u : WindowPlace). Lent text pattern (u .columns) (u .height) (u .width) offsets selves tops) e a

@@ -1,6 +1,6 @@
 // The records of one window: found with its pairs, or a mismatch.
 ghost use mathlib.Core.Path.{_≡_};
-ghost use Prim.Native.Nat.{_+_, _≤_};
+ghost use Prim.Native.Nat.{_+_};
 ghost use lib.Dec.{eqb};
 ghost use lib.ListN.{length};
 ghost use Rattle.theory.specs.Older.{Older};
@@ -12,7 +12,7 @@ ghost use Rattle.claims.specs.Claims.{orStop};
 ghost use Rattle.claims.specs.declared.walks.Walk.the-variants.{Goes};
 ghost use Rattle.verify.specs.Check.{rightMismatch, entryFrom};
 ghost use Rattle.claims.specs.Walks.{MismatchAt};
-ghost use Rattle.carrying.specs.Inheritance.{Above};
+ghost use Rattle.carrying.specs.Inheritance.{Lent};
 use claims::mismatches::true_mismatch;
 use claims::pairs::found_pairs;
 use claims::walks::Walk;
@@ -62,9 +62,8 @@ pub fn read_entry(
     pattern: &[u8],
     symbols: &[u8],
     base: u32,
-    images: &mut [u32; 256],
     given: &mut [u32; 256],
-    offsets: &mut [usize; 256],
+    offsets: &mut [usize; 257],
     selves: &mut [usize; 256],
     tops: &mut [usize; 256],
     listing: &[u8],
@@ -72,17 +71,16 @@ pub fn read_entry(
 ) -> Walk
     requires { ⌜
         Placed (now text) v × (length (now pattern) ≡ cellCount v) × (now symbols ≡ symbolsOf (now pattern))
-        × (length (now images) ≡ 256) × Older base (now given) × (base ≤ 16777216)
-        × Above (now text) (now pattern) (v .columns) (v .height) (v .width) (now offsets) (now selves) (now tops) ⌝ }
+        × Older base (now given)
+        × Lent (now text) (now pattern) (v .columns) (v .height) (v .width) (now offsets) (now selves) (now tops) ⌝ }
     ensures { λ r. ⌜ r ≡ entryFrom (now (text .entry)) (now (pattern .entry)) v (now (listing .entry)) at ⌝ }
     ensures { λ r. ⌜ Older (base + 256) (now (given .exit)) ⌝ }
-    ensures { λ r. ⌜ length (now (images .exit)) ≡ 256 ⌝ }
     ensures { λ r. ⌜
-        Above (now (text .entry)) (now (pattern .entry)) (v .columns) (v .height) (v .width) (now (offsets .exit))
+        Lent (now (text .entry)) (now (pattern .entry)) (v .columns) (v .height) (v .width) (now (offsets .exit))
         (now (selves .exit)) (now (tops .exit)) ⌝ }
 {
     let cursor = Cursor { at };
-    let Read::Whole(item, next) = cursor.read(listing) else {
+    let Read::Whole(item, next) = cursor.read_found_first(listing) else {
         return Walk::Stops(Refusal::ListingForm(at));
     };
     let other = Walk::Stops(Refusal::ListingForm(at));
@@ -97,7 +95,6 @@ pub fn read_entry(
                 pattern,
                 symbols,
                 base,
-                images,
                 given,
                 offsets,
                 selves,

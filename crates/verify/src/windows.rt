@@ -8,9 +8,10 @@ ghost use Rattle.theory.specs.Test.{pick};
 ghost use Rattle.shapes.specs.Shapes.{ShapeOf};
 ghost use Rattle.shapes.specs.Questions.{asked};
 ghost use Rattle.sets.specs.Symbols.{symbolsOf};
-ghost use Rattle.carrying.specs.Inheritance.{Above};
+ghost use Rattle.carrying.specs.Inheritance.{Lent};
 ghost use Rattle.verify.specs.Windows.{WindowsWalked};
 use crate::entries::read_entry;
+use carrying::offsets::unmade_offsets;
 use claims::walks::Walk;
 use matching::windows::next_window;
 use reach::places::no_positions;
@@ -45,17 +46,16 @@ fn walk_windows(
     pattern: &[u8],
     s: Shape,
     symbols: &[u8],
-    images: &mut [u32; 256],
     given: &mut [u32; 256],
-    offsets: &mut [usize; 256],
+    offsets: &mut [usize; 257],
     selves: &mut [usize; 256],
     tops: &mut [usize; 256],
     listing: &[u8],
 ) -> Walked
     requires { ⌜
         ShapeOf s (length (now text)) × (length (now pattern) ≡ s .height * s .width)
-        × (now symbols ≡ symbolsOf (now pattern)) × (length (now images) ≡ 256) × Older 256 (now given)
-        × Above (now text) (now pattern) (s .columns) (s .height) (s .width) (now offsets) (now selves) (now tops) ⌝ }
+        × (now symbols ≡ symbolsOf (now pattern)) × Older 256 (now given)
+        × Lent (now text) (now pattern) (s .columns) (s .height) (s .width) (now offsets) (now selves) (now tops) ⌝ }
     ensures { λ r. ⌜ WindowsWalked (asked (now (text .entry)) (now (pattern .entry)) s) (now (listing .entry)) r ⌝ }
 {
     let across = s.columns + 1 - s.width;
@@ -78,7 +78,6 @@ fn walk_windows(
             pattern,
             symbols,
             base,
-            images,
             given,
             offsets,
             selves,
@@ -111,9 +110,8 @@ pub fn read_windows(text: &[u8], pattern: &[u8], s: Shape, listing: &[u8]) -> Wa
     let set = symbols_of(pattern);
     let mut listed = no_symbols();
     let d = list_symbols(set, &mut listed);
-    let mut images = no_entries();
     let mut given = no_entries();
-    let mut offsets = no_positions();
+    let mut offsets = unmade_offsets();
     let mut selves = no_positions();
     let mut tops = no_positions();
     walk_windows(
@@ -121,7 +119,6 @@ pub fn read_windows(text: &[u8], pattern: &[u8], s: Shape, listing: &[u8]) -> Wa
         pattern,
         s,
         &listed[..d],
-        &mut images,
         &mut given,
         &mut offsets,
         &mut selves,

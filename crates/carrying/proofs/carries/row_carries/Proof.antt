@@ -1,52 +1,66 @@
--- `carries::row_carries` meets its contract. The invariant: the cells before j carry, and what was given before the row
--- is kept. A round takes two cells more, and behind the loop at most one is left.
+-- `carries::row_carries` meets its contract. The invariant: the cells before j have their images. A round takes two
+-- cells more, and behind the loop at most one is left.
 -- Assumes nothing.
 use mathlib.Core.Path.{_≡_}
 use mathlib.Core.Bool.{false≢true}
 use native.Mathlib.Omega.{arith}
 use Prim.Native.Nat.{_-_, _≤_, _+_}
 use lib.ListN.{length}
-use borrow.Author.Tests.{not-false}
 use denote.Ref.{now}
+use Rattle.theory.specs.Test.Laws.{eq-tested, says-true}
 use Rattle.carrying.specs.Carries.{RowCarried, row-none, row-more, row-two}
 use Rattle.carrying.proofs.carries.row_carries.Statement.{statement}
 use Rattle.carrying.proofs.carries.row_carries.Tie as tie
 
 abbrev Inv-loop : tie.InvT-loop
-Inv-loop row cells base images₀ n j₀ images j = (j ≤ length row) × (length images ≡ 256) × RowCarried base row cells j images₀ images
+Inv-loop text corner offsets row cells n j₀ j = (j ≤ length row) × RowCarried text corner offsets row cells j
 
 abbrev μ-loop : tie.MeasureT-loop
-μ-loop row cells base images₀ n j₀ images j = length row - j
+μ-loop text corner offsets row cells n j₀ j = length row - j
 
 loop-holds : tie.Need-loop-holds Inv-loop μ-loop
-loop-holds c = let o = c .before .before in (omega arith, o .pre .1, row-none _ _ (now (o .args .cells)) _)
+loop-holds c =
+    let a = c .before .before .before .args in
+    (omega arith, row-none (now (a .text)) (a .corner) (now (a .offsets)) _ (now (a .cells)))
 
 add-loop : tie.Need-add-loop Inv-loop μ-loop
 add-loop c = omega arith
 
-shared-slice-read-carry-two : tie.Need-shared-slice-read-carry-two Inv-loop μ-loop
-shared-slice-read-carry-two c = omega arith
+shared-slice-read-image-of : tie.Need-shared-slice-read-image-of Inv-loop μ-loop
+shared-slice-read-image-of c = omega arith
 
-shared-slice-read-carry-two-2 : tie.Need-shared-slice-read-carry-two-2 Inv-loop μ-loop
-shared-slice-read-carry-two-2 c = omega arith
+image-of-requires : tie.Need-image-of-requires Inv-loop μ-loop
+image-of-requires c κs =
+    let o = c .before .before .before .before .before .before in
+    let i = c .before .before .loop in
+    (o .pre .0 .long, o .pre .0 .each (i .j) (omega (arith, o .pre .1, c .before .loop-test .taken)))
 
-add-carry-two : tie.Need-add-carry-two Inv-loop μ-loop
-add-carry-two c = omega arith
-
-shared-slice-read-carry-two-3 : tie.Need-shared-slice-read-carry-two-3 Inv-loop μ-loop
-shared-slice-read-carry-two-3 c = omega arith
-
-add-carry-two-2 : tie.Need-add-carry-two-2 Inv-loop μ-loop
-add-carry-two-2 c = omega arith
-
-shared-slice-read-carry-two-4 : tie.Need-shared-slice-read-carry-two-4 Inv-loop μ-loop
-shared-slice-read-carry-two-4 c = omega arith
-
-carry-two-requires : tie.Need-carry-two-requires Inv-loop μ-loop
-carry-two-requires c κs = (c .before .before .before .before .before .before .loop .inv .1, c .before .before .before .before .before .before .before .before .before .pre .2)
+shared-slice-read-if1 : tie.Need-shared-slice-read-if1 Inv-loop μ-loop
+shared-slice-read-if1 c = omega arith
 
 returns : tie.Need-returns Inv-loop μ-loop
-returns c = (λ e. absurd (false≢true e), c .before .carry-two .ensures .1)
+returns c = λ e. absurd (false≢true e)
+
+add-image-of : tie.Need-add-image-of Inv-loop μ-loop
+add-image-of c = omega arith
+
+shared-slice-read-image-of-2 : tie.Need-shared-slice-read-image-of-2 Inv-loop μ-loop
+shared-slice-read-image-of-2 c = omega arith
+
+image-of-requires-2 : tie.Need-image-of-requires-2 Inv-loop μ-loop
+image-of-requires-2 c κs =
+    let o = c .before .before .before .before .before .before .before .before .before .before in
+    let t = c .before .before .before .before .before in
+    (o .pre .0 .long, o .pre .0 .each (t .before .loop .j + 1) (omega (arith, o .pre .1, t .loop-test .taken)))
+
+add-if2 : tie.Need-add-if2 Inv-loop μ-loop
+add-if2 c = omega arith
+
+shared-slice-read-if2 : tie.Need-shared-slice-read-if2 Inv-loop μ-loop
+shared-slice-read-if2 c = omega arith
+
+returns-2 : tie.Need-returns-2 Inv-loop μ-loop
+returns-2 c = λ e. absurd (false≢true e)
 
 add-j : tie.Need-add-j Inv-loop μ-loop
 add-j c = omega arith
@@ -56,32 +70,42 @@ loop-less c = omega arith
 
 loop-again : tie.Need-loop-again Inv-loop μ-loop
 loop-again c =
-    let o = c .before .before .before .before .before .before .before .before .before .before .before in
-    let i = c .before .before .before .before .before .before .before .before .loop in
-    (omega arith, c .before .carry-two .ensures .1, row-two _ (now (o .args .row)) (now (o .args .cells)) _ (i .j) _ _ (i .inv .2) (c .before .carry-two .ensures .0 (not-false _ (c .if1 .left))))
+    let t = c .before .before .before .before .before .before .before .before in
+    let a = t .before .before .before .before .before .args in
+    let i = t .before .loop in (
+      omega (arith, t .loop-test .taken),
+      row-two _ _ _ _ (now (a .cells)) (i .j) _ _ (i .inv .1)
+          (c .before .before .before .before .before .before .image-of .ensures)
+          (c .before .before .before .before .if1 .left) (c .before .before .image-of2 .ensures) (c .if2 .left),
+    )
 
-shared-slice-read-carry-cell : tie.Need-shared-slice-read-carry-cell Inv-loop μ-loop
-shared-slice-read-carry-cell c = omega arith
+shared-slice-read-image-of-3 : tie.Need-shared-slice-read-image-of-3 Inv-loop μ-loop
+shared-slice-read-image-of-3 c = omega arith
 
-shared-slice-read-carry-cell-2 : tie.Need-shared-slice-read-carry-cell-2 Inv-loop μ-loop
-shared-slice-read-carry-cell-2 c = omega arith
+image-of-requires-3 : tie.Need-image-of-requires-3 Inv-loop μ-loop
+image-of-requires-3 c κs =
+    let o = c .before .before .before .before .before .before .before in
+    let i = c .before .before .before .loop in
+    (o .pre .0 .long, o .pre .0 .each (i .j) (omega (arith, o .pre .1, c .before .if3 .taken)))
 
-carry-cell-requires : tie.Need-carry-cell-requires Inv-loop μ-loop
-carry-cell-requires c κs = (c .before .before .before .before .before .loop .inv .1, c .before .before .before .before .before .before .before .before .pre .2)
-
-returns-2 : tie.Need-returns-2 Inv-loop μ-loop
-returns-2 c =
-    let o = c .before .before .before .before .before .before .before .before .before in
-    let i = c .before .before .before .before .before .before .loop in
-    let all : i .j + 1 ≡ length (now (o .args .row)) = omega arith in
-    (λ e. rw all at (row-more _ (now (o .args .row)) (now (o .args .cells)) _ (i .j) _ _ (i .inv .2) (c .carry-cell .ensures .0 e)), c .carry-cell .ensures .1)
+shared-slice-read-result : tie.Need-shared-slice-read-result Inv-loop μ-loop
+shared-slice-read-result c = omega arith
 
 returns-3 : tie.Need-returns-3 Inv-loop μ-loop
 returns-3 c =
-    let o = c .before .before .before .before .before in
+    let a = c .before .before .before .before .before .before .before .before .before .args in
+    let i = c .before .before .before .before .before .loop in
+    let t = c .before .before .before in
+    let all : i .j + 1 ≡ length (now (a .row)) = omega (arith, t .if3 .taken, t .before .loop-test .left) in
+    λ e. rw all at (row-more _ _ _ _ (now (a .cells)) (i .j) _ (i .inv .1) (c .before .image-of3 .ensures)
+    (says-true (eq-tested _ _) e))
+
+returns-4 : tie.Need-returns-4 Inv-loop μ-loop
+returns-4 c =
+    let a = c .before .before .before .before .before .before .args in
     let i = c .before .before .loop in
-    let all : i .j ≡ length (now (o .args .row)) = omega (arith, i .inv .0) in
-    (λ _. rw all at (i .inv .2), i .inv .1)
+    let all : i .j ≡ length (now (a .row)) = omega (arith, i .inv .0, c .if3 .left) in
+    λ _. rw all at (i .inv .1)
 
 pub row-carries-spec : {M : Type 1} → statement M
 row-carries-spec =
@@ -91,19 +115,21 @@ row-carries-spec =
     μ-loop
     loop-holds
     add-loop
-    shared-slice-read-carry-two
-    shared-slice-read-carry-two-2
-    add-carry-two
-    shared-slice-read-carry-two-3
-    add-carry-two-2
-    shared-slice-read-carry-two-4
-    carry-two-requires
+    shared-slice-read-image-of
+    image-of-requires
+    shared-slice-read-if1
     returns
+    add-image-of
+    shared-slice-read-image-of-2
+    image-of-requires-2
+    add-if2
+    shared-slice-read-if2
+    returns-2
     add-j
     loop-less
     loop-again
-    shared-slice-read-carry-cell
-    shared-slice-read-carry-cell-2
-    carry-cell-requires
-    returns-2
-    returns-3)
+    shared-slice-read-image-of-3
+    image-of-requires-3
+    shared-slice-read-result
+    returns-3
+    returns-4)

@@ -1,7 +1,5 @@
--- `inherit::own_end` meets its contract: the own ends are made already, or `own_ends` makes them with the first places,
--- and `first_offsets` the offsets.
+-- `inherit::own_end` meets its contract: the own ends are made already, or `own_ends` makes them with the first places.
 -- Assumes nothing.
-use native.Mathlib.Omega.{arith}
 use borrow.Author.Needs.{needs}
 use Rattle.carrying.proofs.inherit.own_end.Statement.{statement}
 use Rattle.carrying.proofs.inherit.own_end.Tie as tie
@@ -17,9 +15,9 @@ element-copy-out-result c = search needs
 
 returns : tie.Need-returns
 returns c =
-    let o = c .before .before .before .before .before in
-    let m = o .pre .3 .made (c .before .if1 .taken) in
-    (m .each (o .args .k) (o .pre .4), m)
+    let o = c .before .before .before .before in
+    let m = o .pre .1 .made (c .before .if1 .taken) in
+    (m .each (o .args .k) (o .pre .2), m)
 
 no-positions-requires : tie.Need-no-positions-requires
 no-positions-requires c κs = search needs
@@ -29,18 +27,6 @@ no-positions-requires-2 c κs = search needs
 
 first-places-requires : tie.Need-first-places-requires
 first-places-requires c κs = search needs
-
-first-offsets-requires : tie.Need-first-offsets-requires
-first-offsets-requires c κs =
-    let known = c .before .before .before .before .before .before .before .before .before in
-    let o = known .before in (
-      o .pre .0,
-      o .pre .1,
-      o .pre .2,
-      c .before .before .first-places .ensures,
-      o .pre .3 .offsets-long,
-      λ k. omega (arith, known .shared-slice-known .given k),
-    )
 
 own-ends-requires : tie.Need-own-ends-requires
 own-ends-requires c κs = search needs
@@ -53,16 +39,9 @@ element-copy-out-result-2 c = search needs
 
 returns-2 : tie.Need-returns-2
 returns-2 c =
-    let made = c .before .before .before .before .before in
-    let o = made .before .before .before .before .before .before .before .before .before .before .before in
-    let e = c .before .own-ends .ensures in (
-      e .each (o .args .k) (o .pre .4) .end-is,
-      record {
-        leads = made .first-offsets .ensures;
-        long = e .selves-long;
-        each = λ k h. e .each k h .end-is;
-      },
-    )
+    let o = c .before .before .before .before .before .before .before .before .before .before .before .before in
+    let e = c .before .own-ends .ensures in
+    (e .each (o .args .k) (o .pre .2) .end-is, record { long = e .selves-long; each = λ k h. e .each k h .end-is })
 
 pub own-end-spec : {M : Type 1} → statement M
 own-end-spec =
@@ -75,7 +54,6 @@ own-end-spec =
     no-positions-requires
     no-positions-requires-2
     first-places-requires
-    first-offsets-requires
     own-ends-requires
     mul-result-2
     element-copy-out-result-2

@@ -1,37 +1,57 @@
--- `pairs::plain_pair` meets its contract: behind the four tests the pair is plain, and before them nothing is written.
+-- `pairs::plain_pair` meets its contract: behind the three tests the pair is plain, and before them nothing is written.
+-- Kind and symbol are bytes, so that their number says both (`head-says`).
 -- Assumes nothing.
-use mathlib.Core.Path.{refl, sym}
+use mathlib.Core.Path.{refl, sym, _∙_}
 use mathlib.Core.Bool.{false≢true}
-use Prim.Native.Nat.{_+_, _<_}
 use native.Mathlib.Omega.{arith}
+use Prim.Native.Nat.{_+_, _<_}
 use lib.ListN.{getD}
-use denote.Ref.{now}
 use borrow.Author.Needs.{needs}
+use denote.Ref.{now}
+use Rattle.claims.specs.Pairs.Plain.{head-says}
 use Rattle.claims.proofs.pairs.plain_pair.Statement.{statement}
 use Rattle.claims.proofs.pairs.plain_pair.Tie as tie
 
--- the pair's second symbol is a byte
-byte : (c : tie.After-shared-slice-known4)
-    → getD (now (c .before .before .before .before .before .before .args .listing))
-    (c .before .before .before .before .before .before .args .at + 2) 0 < 256
-byte c =
-    let o = c .before .before .before .before .before .before in
-    omega (arith, c .before .shared-slice-known3 .given (o .args .at + 2))
+-- the pair's three numbers are bytes
+bytes : (c : tie.After-shared-slice-known4) → let a = c .before .before .before .before .args in
+    (getD (now (a .listing)) (a .at) 0 < 256) × (getD (now (a .listing)) (a .at + 1) 0 < 256)
+    × (getD (now (a .listing)) (a .at + 2) 0 < 256)
+bytes c =
+    let a = c .before .before .before .before .args in (
+      omega (arith, c .shared-slice-known4 .given (a .at)),
+      omega (arith, c .shared-slice-known4 .given (a .at + 1)),
+      omega (arith, c .shared-slice-known4 .given (a .at + 2)),
+    )
 
-shared-slice-read-if1 : tie.Need-shared-slice-read-if1
-shared-slice-read-if1 c = search needs
+shared-slice-read-head : tie.Need-shared-slice-read-head
+shared-slice-read-head c = search needs
+
+cast-head : tie.Need-cast-head
+cast-head c = omega (arith, c .shared-slice-known3 .given (c .before .before .before .args .at))
+
+add-head : tie.Need-add-head
+add-head c = search needs
+
+shared-slice-read-head-2 : tie.Need-shared-slice-read-head-2
+shared-slice-read-head-2 c = search needs
+
+cast-head-2 : tie.Need-cast-head-2
+cast-head-2 c = omega (arith, bytes c .0, bytes c .1, bytes c .2)
+
+mul-head : tie.Need-mul-head
+mul-head c = omega (arith, bytes c .0, bytes c .1, bytes c .2)
+
+add-head-2 : tie.Need-add-head-2
+add-head-2 c = omega (arith, bytes c .0, bytes c .1, bytes c .2)
+
+mul-if1 : tie.Need-mul-if1
+mul-if1 c = search needs
+
+add-if1 : tie.Need-add-if1
+add-if1 c = search needs
 
 returns : tie.Need-returns
 returns c = (λ e. absurd (false≢true e), λ _. refl)
-
-add-if2 : tie.Need-add-if2
-add-if2 c = search needs
-
-shared-slice-read-if2 : tie.Need-shared-slice-read-if2
-shared-slice-read-if2 c = search needs
-
-returns-2 : tie.Need-returns-2
-returns-2 c = (λ e. absurd (false≢true e), λ _. refl)
 
 add-b : tie.Need-add-b
 add-b c = search needs
@@ -39,53 +59,45 @@ add-b c = search needs
 shared-slice-read-b : tie.Need-shared-slice-read-b
 shared-slice-read-b c = search needs
 
-mul-image : tie.Need-mul-image
-mul-image c = search needs
+image-of-requires : tie.Need-image-of-requires
+image-of-requires c κs = search needs
 
-shared-slice-read-image : tie.Need-shared-slice-read-image
-shared-slice-read-image c = search needs
+returns-2 : tie.Need-returns-2
+returns-2 c = (λ e. absurd (false≢true e), λ _. refl)
 
-cast-wanted : tie.Need-cast-wanted
-cast-wanted c = omega (arith, byte c)
+cast-if3 : tie.Need-cast-if3
+cast-if3 c = omega (arith, bytes (c .before .before .before .before) .2)
 
-add-wanted : tie.Need-add-wanted
-add-wanted c =
-    let o = c .before .before .before .before .before .before in
-    omega (arith, byte c, o .pre .2)
+mul-if3 : tie.Need-mul-if3
+mul-if3 c = omega (arith, bytes (c .before .before .before .before) .2)
+
+element-copy-out-if3 : tie.Need-element-copy-out-if3
+element-copy-out-if3 c = omega (arith, bytes (c .before .before .before .before) .2)
 
 returns-3 : tie.Need-returns-3
 returns-3 c = (λ e. absurd (false≢true e), λ _. refl)
 
-cast-if4 : tie.Need-cast-if4
-cast-if4 c = omega (arith, byte (c .before))
-
-mul-if4 : tie.Need-mul-if4
-mul-if4 c = omega (arith, byte (c .before))
-
-element-copy-out-if4 : tie.Need-element-copy-out-if4
-element-copy-out-if4 c = omega (arith, byte (c .before))
-
-returns-4 : tie.Need-returns-4
-returns-4 c = (λ e. absurd (false≢true e), λ _. refl)
-
 cast-given : tie.Need-cast-given
-cast-given c = omega (arith, byte (c .before .before .before))
+cast-given c = omega (arith, bytes (c .before .before .before .before .before .before) .2)
 
 mul-given : tie.Need-mul-given
-mul-given c = omega (arith, byte (c .before .before .before))
+mul-given c = omega (arith, bytes (c .before .before .before .before .before .before) .2)
 
 element-write-given : tie.Need-element-write-given
-element-write-given c = omega (arith, byte (c .before .before .before))
+element-write-given c = omega (arith, bytes (c .before .before .before .before .before .before) .2)
 
-returns-5 : tie.Need-returns-5
-returns-5 c =
-    let k = c .before .before in (
+returns-4 : tie.Need-returns-4
+returns-4 c =
+    let i = c .before .before .before in
+    let t = i .before .before in
+    let b = bytes (t .before) in
+    let head = head-says _ _ _ (b .0) (b .1) (t .if1 .left) in (
       (λ _. record {
-        kind = k .before .before .before .before .before .if1 .left;
-        symbol = k .before .before .before .if2 .left;
-        byte = byte (k .before);
-        image = k .if3 .left;
-        fresh = c .if4 .left;
+        kind = head .0;
+        symbol = head .1;
+        byte = b .2;
+        image = sym (i .image-of .ensures) ∙ c .before .before .if2 .left;
+        fresh = c .if3 .left;
         marked = refl;
       }),
       (λ e. absurd (false≢true (sym e))),
@@ -95,23 +107,25 @@ pub plain-pair-spec : {M : Type 1} → statement M
 plain-pair-spec =
     tie.close
     (tie.spec
-    shared-slice-read-if1
+    shared-slice-read-head
+    cast-head
+    add-head
+    shared-slice-read-head-2
+    cast-head-2
+    mul-head
+    add-head-2
+    mul-if1
+    add-if1
     returns
-    add-if2
-    shared-slice-read-if2
-    returns-2
     add-b
     shared-slice-read-b
-    mul-image
-    shared-slice-read-image
-    cast-wanted
-    add-wanted
+    image-of-requires
+    returns-2
+    cast-if3
+    mul-if3
+    element-copy-out-if3
     returns-3
-    cast-if4
-    mul-if4
-    element-copy-out-if4
-    returns-4
     cast-given
     mul-given
     element-write-given
-    returns-5)
+    returns-4)

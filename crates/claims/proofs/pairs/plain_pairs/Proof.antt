@@ -1,6 +1,6 @@
 -- `pairs::plain_pairs` meets its contract. The invariant: the first k pairs are plain, and the next begins at end.
 -- Assumes nothing.
-use mathlib.Core.Path.{_≡_, refl, sym}
+use mathlib.Core.Path.{_≡_, refl}
 use mathlib.Core.Bool.{true}
 use Prim.Native.Nat.{_+_, _-_, _*_, _≤_}
 use native.Mathlib.Nat.{add-zero}
@@ -13,11 +13,11 @@ use Rattle.claims.proofs.pairs.plain_pairs.Statement.{statement}
 use Rattle.claims.proofs.pairs.plain_pairs.Tie as tie
 
 abbrev Inv-loop : tie.InvT-loop
-Inv-loop carried base images given₀ symbols listing at n end₀ k₀ given end k =
-    (k ≤ n) × (end ≡ at + 3 * k) × PlainTo true base images symbols listing at given₀ k end given
+Inv-loop text carried corner offsets base given₀ symbols listing at n end₀ k₀ given end k =
+    (k ≤ n) × (end ≡ at + 3 * k) × PlainTo text true corner offsets base symbols listing at given₀ k end given
 
 abbrev μ-loop : tie.MeasureT-loop
-μ-loop carried base images given₀ symbols listing at n end₀ k₀ given end k = n - k
+μ-loop text carried corner offsets base given₀ symbols listing at n end₀ k₀ given end k = n - k
 
 -- where a round begins, and its entry
 abbrev round : tie.After-shared-slice-known4 Inv-loop μ-loop → tie.In-loop Inv-loop μ-loop
@@ -42,12 +42,12 @@ room c =
 returns : tie.Need-returns Inv-loop μ-loop
 returns c =
     let o = c .before .before .before .before in
-    (plain-none _ _ _ _ _ _ _ _ (add-zero (o .args .at)) (o .pre .1), omega arith)
+    (plain-none _ _ _ _ _ _ _ _ _ _ (add-zero (o .args .at)) (o .pre .1), omega arith)
 
 returns-2 : tie.Need-returns-2 Inv-loop μ-loop
 returns-2 c =
     let o = c .before .before .before .before .before in
-    (plain-none _ _ _ _ _ _ _ _ (add-zero (o .args .at)) (o .pre .1), omega arith)
+    (plain-none _ _ _ _ _ _ _ _ _ _ (add-zero (o .args .at)) (o .pre .1), omega arith)
 
 sub-if3 : tie.Need-sub-if3 Inv-loop μ-loop
 sub-if3 c = omega arith
@@ -55,12 +55,12 @@ sub-if3 c = omega arith
 returns-3 : tie.Need-returns-3 Inv-loop μ-loop
 returns-3 c =
     let o = c .before .before .before .before .before .before in
-    (plain-none _ _ _ _ _ _ _ _ (add-zero (o .args .at)) (o .pre .1), omega arith)
+    (plain-none _ _ _ _ _ _ _ _ _ _ (add-zero (o .args .at)) (o .pre .1), omega arith)
 
 loop-holds : tie.Need-loop-holds Inv-loop μ-loop
 loop-holds c =
     let o = c .before .before .before .before .before .before in
-    (omega arith, omega arith, plain-none _ _ _ _ _ _ _ _ refl (o .pre .1))
+    (omega arith, omega arith, plain-none _ _ _ _ _ _ _ _ _ _ refl (o .pre .1))
 
 shared-slice-read-plain-pair : tie.Need-shared-slice-read-plain-pair Inv-loop μ-loop
 shared-slice-read-plain-pair c = omega arith
@@ -68,14 +68,20 @@ shared-slice-read-plain-pair c = omega arith
 plain-pair-requires : tie.Need-plain-pair-requires Inv-loop μ-loop
 plain-pair-requires c κs =
     let o = entry (round c) in
-    (o .pre .0, c .before .before .before .loop .inv .2 .long, o .pre .2, room (round c))
+    let i = c .before .before .before .loop in (
+      o .pre .0 .long,
+      o .pre .0 .each (i .k) (c .before .before .loop-test .taken),
+      i .inv .2 .long,
+      room (round c),
+    )
 
 returns-4 : tie.Need-returns-4 Inv-loop μ-loop
 returns-4 c =
     let i = c .before .before .before .before .before .loop in
     let tests = c .before .before .before .before .before .before in
     let same = c .before .plain-pair .ensures .1 (not-true _ (c .if4 .taken)) in (
-      rw same (plain-told _ _ _ _ _ _ _ _ _ _ (not-false _ (tests .before .before .if1 .left)) (i .inv .1) (i .inv .2)),
+      rw same (plain-told _ _ _ _ _ _ _ _ _ _ _ _ (not-false _ (tests .before .before .if1 .left)) (i .inv .1)
+          (i .inv .2)),
       omega (arith, room (c .before .before .before .before), i .inv .1),
     )
 
@@ -94,7 +100,7 @@ loop-again c =
     let t = c .before .before .before .before in (
       omega (arith, t .loop-test .taken),
       omega (arith, i .inv .1),
-      plain-more _ _ _ _ _ _ (i .k) (i .end) _ _ (i .inv .2) (t .loop-test .taken) (room t)
+      plain-more _ _ _ _ _ _ _ _ (i .k) (i .end) _ _ (i .inv .2) (t .loop-test .taken) (room t)
           (c .before .plain-pair .ensures .0 (not-false _ (c .if4 .left))),
     )
 
@@ -102,7 +108,7 @@ returns-5 : tie.Need-returns-5 Inv-loop μ-loop
 returns-5 c =
     let i = c .before .loop in
     let tests = c .before .before in (
-      plain-told _ _ _ _ _ _ _ _ _ _ (not-false _ (tests .before .before .if1 .left)) (i .inv .1) (i .inv .2),
+      plain-told _ _ _ _ _ _ _ _ _ _ _ _ (not-false _ (tests .before .before .if1 .left)) (i .inv .1) (i .inv .2),
       omega (arith, i .inv .1),
     )
 

@@ -12,19 +12,20 @@ use Rattle.sets.specs.Symbols.{symbolsOf}
 use Rattle.matching.specs.Compare.{patternAt, windowOf, cellCount}
 use Rattle.claims.specs.Claims.{pairsFrom}
 use Rattle.claims.specs.declared.walks.Walk.{Walk}
-use Rattle.carrying.specs.Inheritance.Laws.{listed-has}
+use Rattle.carrying.specs.Offsets.Laws.{listed-has}
+use Rattle.claims.specs.Pairs.{symbols-inside}
 use Rattle.claims.specs.Pairs.Rising.{PairsLeft, listed-few, symbols-left-none, left-stopped}
 use Rattle.claims.specs.Pairs.Rising.{left-passed, marks-next}
 use Rattle.claims.proofs.pairs.read_pairs.Statement.{statement}
 use Rattle.claims.proofs.pairs.read_pairs.Tie as tie
 
 abbrev Inv-loop : tie.InvT-loop
-Inv-loop text v pattern carried base images given₀ symbols listing at i₀ end₀ given i end =
+Inv-loop text v pattern carried corner offsets base given₀ symbols listing at i₀ end₀ given i end =
     PairsLeft (patternAt pattern) (windowOf text v) (cellCount v) listing symbols base
     (pairsFrom (patternAt pattern) (windowOf text v) (cellCount v) listing (symbolsOf pattern) [] at) i end given
 
 abbrev μ-loop : tie.MeasureT-loop
-μ-loop text v pattern carried base images given₀ symbols listing at i₀ end₀ given i end = length symbols - i
+μ-loop text v pattern carried corner offsets base given₀ symbols listing at i₀ end₀ given i end = length symbols - i
 
 -- the walk over all pairs
 abbrev whole : tie.Start Inv-loop μ-loop → Walk
@@ -35,15 +36,15 @@ whole o =
 
 -- where a round begins, and its entry
 abbrev entry : tie.In-loop Inv-loop μ-loop → tie.Start Inv-loop μ-loop
-entry c = c .before .before .before .before .before .before .before .before .before
+entry c = c .before .before .before .before .before .before .before .before
 
 few : (o : tie.Start Inv-loop μ-loop) → length (now (o .args .symbols)) ≤ 256
 few o = listed-few (now (o .args .pattern)) _ (o .pre .1)
 
 plain-pairs-requires : tie.Need-plain-pairs-requires Inv-loop μ-loop
 plain-pairs-requires c κs =
-    let o = c .before .before .before .before .before .before in
-    (o .pre .0 .long, o .pre .2 .long, o .pre .0 .small)
+    let o = c .before .before .before .before .before in
+    (symbols-inside _ (o .args .v) (now (o .args .pattern)) _ _ _ (o .pre .0) _ (o .pre .1), o .pre .2 .long)
 
 mul-end : tie.Need-mul-end Inv-loop μ-loop
 mul-end c = omega (arith, c .plain-pairs .ensures .1)
@@ -53,9 +54,8 @@ add-end c = omega (arith, c .plain-pairs .ensures .1)
 
 loop-holds : tie.Need-loop-holds Inv-loop μ-loop
 loop-holds c =
-    let o = c .before .before .before .before .before .before .before in
-    c .plain-pairs .ensures .0 .each (now (o .args .text)) (o .args .v) (now (o .args .pattern)) (o .pre .0) (o .pre .1)
-    (o .pre .2)
+    let o = c .before .before .before .before .before .before in
+    c .plain-pairs .ensures .0 .each (o .args .v) (now (o .args .pattern)) (o .pre .0) (o .pre .1) (o .pre .2)
 
 shared-slice-read-a : tie.Need-shared-slice-read-a Inv-loop μ-loop
 shared-slice-read-a c = omega arith
@@ -99,7 +99,7 @@ loop-again c =
 returns-2 : tie.Need-returns-2 Inv-loop μ-loop
 returns-2 c =
     let i = c .before .loop .inv in
-    let o = c .before .before .before .before .before .before .before .before .before in (
+    let o = c .before .before .before .before .before .before .before .before in (
       symbols-left-none _ _ _ _ _ _ (whole o) _ _ _ i (omega (arith, c .loop-test .left)),
       marks-next _ _ (i .marked .older),
     )

@@ -27,10 +27,10 @@ whole : (c : tie.After-item) (r : Record) → c .item .given .0 .0 ≡ r → let
 whole c r e =
     let a = entry c .args in
     subst (λ (s : Record). readSaid (Whole s (next c)) ≡ cursorSaid (now (a .listing)) (a .at)) e
-    (sym (ap readSaid (c .item .given .1)) ∙ c .before .before .read .ensures)
+    (sym (ap readSaid (c .item .given .1)) ∙ c .before .before .read-found-first .ensures)
 
-read-requires : tie.Need-read-requires
-read-requires c κs = search needs
+read-found-first-requires : tie.Need-read-found-first-requires
+read-found-first-requires c κs = search needs
 
 enum-known-item : tie.Need-enum-known-item
 enum-known-item c = search needs
@@ -43,8 +43,8 @@ returns c =
     let o = c .before .before .before .before .before .before .before in
     let a = o .args in (
       entry-none (now (a .text)) (now (a .pattern)) (a .v) (now (a .listing)) (a .at) (c .enum-told .given .0 .0)
-          (sym (ap readSaid (c .enum-told .given .1)) ∙ c .before .before .read .ensures),
-      (older-next (a .base) (now (a .given)) (o .pre .4), (o .pre .3, o .pre .6)),
+          (sym (ap readSaid (c .enum-told .given .1)) ∙ c .before .before .read-found-first .ensures),
+      (older-next (a .base) (now (a .given)) (o .pre .3), o .pre .4),
     )
 
 enum-known-item-2 : tie.Need-enum-known-item-2
@@ -60,7 +60,7 @@ returns-2 c =
     let a = o .args in (
       entry-not-due (now (a .text)) (now (a .pattern)) (a .v) (now (a .listing)) (a .at) _ _ _ (whole (i .before .before .before) _ (i .item2 .given .1))
           (sym (c .before .is-due .ensures) ∙ not-true _ (c .if1 .taken)),
-      (older-next (a .base) (now (a .given)) (o .pre .4), (o .pre .3, o .pre .6)),
+      (older-next (a .base) (now (a .given)) (o .pre .3), o .pre .4),
     )
 
 found-pairs-requires : tie.Need-found-pairs-requires
@@ -94,7 +94,7 @@ enum-told-3 c = search needs
 
 returns-3 : tie.Need-returns-3
 returns-3 c =
-    let e = c .before .before .before .before .before .before in
+    let e = c .before .before .before .before .before in
     let i = e .before .before .before in
     let a = entry (i .before .before .before) .args in (
       found-entry-passes (now (a .text)) (now (a .pattern)) (a .v) (now (a .listing)) (a .at) _ _ _ (whole (i .before .before .before) _ (i .item2 .given .1))
@@ -108,7 +108,7 @@ returns-4 c =
     let o = entry (i .before .before .before) in
     let a = o .args in (
       entry-pattern (now (a .text)) (now (a .pattern)) (a .v) (now (a .listing)) (a .at) _ _ (whole (i .before .before .before) _ (i .item3 .given .1)) _ (c .refused-window .ensures),
-      (older-next (a .base) (now (a .given)) (o .pre .4), (o .pre .3, o .pre .6)),
+      (older-next (a .base) (now (a .given)) (o .pre .3), o .pre .4),
     )
 
 returns-5 : tie.Need-returns-5
@@ -117,7 +117,7 @@ returns-5 c =
     let o = entry (i .before .before .before) in
     let a = o .args in (
       entry-window (now (a .text)) (now (a .pattern)) (a .v) (now (a .listing)) (a .at) _ _ (whole (i .before .before .before) _ (i .item4 .given .1)) _ (c .refused-window2 .ensures),
-      (older-next (a .base) (now (a .given)) (o .pre .4), (o .pre .3, o .pre .6)),
+      (older-next (a .base) (now (a .given)) (o .pre .3), o .pre .4),
     )
 
 returns-6 : tie.Need-returns-6
@@ -126,7 +126,7 @@ returns-6 c =
     let o = entry i in
     let a = o .args in (
       entry-pair (now (a .text)) (now (a .pattern)) (a .v) (now (a .listing)) (a .at) _ _ _ (whole i _ (c .enum-told2 .given .1)),
-      (older-next (a .base) (now (a .given)) (o .pre .4), (o .pre .3, o .pre .6)),
+      (older-next (a .base) (now (a .given)) (o .pre .3), o .pre .4),
     )
 
 returns-7 : tie.Need-returns-7
@@ -135,14 +135,14 @@ returns-7 c =
     let o = entry i in
     let a = o .args in (
       entry-closing (now (a .text)) (now (a .pattern)) (a .v) (now (a .listing)) (a .at) _ _ _ (whole i _ (c .enum-told3 .given .1)),
-      (older-next (a .base) (now (a .given)) (o .pre .4), (o .pre .3, o .pre .6)),
+      (older-next (a .base) (now (a .given)) (o .pre .3), o .pre .4),
     )
 
 pub read-entry-spec : {M : Type 1} → statement M
 read-entry-spec =
     tie.close
     (tie.spec
-    read-requires
+    read-found-first-requires
     enum-known-item
     enum-told
     returns

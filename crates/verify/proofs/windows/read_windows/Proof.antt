@@ -8,7 +8,7 @@ use borrow.Author.Needs.{needs}
 use Rattle.theory.specs.Older.Laws.{older-zeros, zeros-long}
 use Rattle.sets.specs.Symbols.Listed.{listed-take, listed-inside}
 use Rattle.sets.specs.Symbols.Patterns.{members-symbol-set}
-use Rattle.verify.specs.Windows.{above-none}
+use Rattle.verify.specs.Windows.{lent-none}
 use Rattle.verify.proofs.windows.read_windows.Statement.{statement}
 use Rattle.verify.proofs.windows.read_windows.Tie as tie
 
@@ -24,8 +24,8 @@ list-symbols-requires c κs = zeros-long _ (c .before .no-symbols .ensures)
 no-entries-requires : tie.Need-no-entries-requires
 no-entries-requires c κs = search needs
 
-no-entries-requires-2 : tie.Need-no-entries-requires-2
-no-entries-requires-2 c κs = search needs
+unmade-offsets-requires : tie.Need-unmade-offsets-requires
+unmade-offsets-requires c κs = search needs
 
 no-positions-requires : tie.Need-no-positions-requires
 no-positions-requires c κs = search needs
@@ -33,12 +33,9 @@ no-positions-requires c κs = search needs
 no-positions-requires-2 : tie.Need-no-positions-requires-2
 no-positions-requires-2 c κs = search needs
 
-no-positions-requires-3 : tie.Need-no-positions-requires-3
-no-positions-requires-3 c κs = search needs
-
 array-share-prefix-listed : tie.Need-array-share-prefix-listed
 array-share-prefix-listed c =
-    let d = c .before .before .before .before .before in
+    let d = c .before .before .before .before in
     let e = d .list-symbols .ensures in
     listed-inside _ _ _ _ (e .0) (e .1) (zeros-long _ (d .before .before .no-symbols .ensures))
 
@@ -47,16 +44,16 @@ slice-aggregate-walk-windows c = sym (length-take-le _ _ (array-share-prefix-lis
 
 walk-windows-requires : tie.Need-walk-windows-requires
 walk-windows-requires c κs =
-    let o = c .before .before .before .before .before .before .before .before .before .before .before .before .before .before .before .before .before .before in
-    let d = c .before .before .before .before .before .before .before .before .before .before .before in
+    let d = c .before .before .before .before .before .before .before .before .before in
+    let o = d .before .before .before .before .before .before .before in
+    let positions = c .before .before .before .before .before in
     let sides = o .pre .0 .sized .sides in (
       o .pre .0,
       o .pre .1,
       listed-take _ _ _ _ (d .list-symbols .ensures .0) (d .list-symbols .ensures .1)
           ∙ members-symbol-set _ _ (d .before .before .before .symbols-of .ensures),
-      zeros-long _ (c .before .before .before .before .before .before .before .before .before .before .no-entries .ensures),
-      older-zeros _ _ (omega arith) (c .before .before .before .before .before .before .before .before .before .no-entries2 .ensures),
-      above-none _ _ _ _ _ _ _ _
+      older-zeros _ _ (omega arith) (positions .before .before .before .no-entries .ensures),
+      lent-none _ _ _ _ _ _ _ _
           (record {
             cells = o .pre .1;
             tall = sides .height-good .positive;
@@ -64,7 +61,8 @@ walk-windows-requires c κs =
             height-le = sides .height-good .small;
             width-le = sides .width-good .small;
           })
-          (sides .columns-good .small) (c .before .before .before .before .before .before .before .before .no-positions .ensures) (c .before .before .before .before .before .before .before .no-positions2 .ensures) (c .before .before .before .before .before .before .no-positions3 .ensures),
+          (sides .columns-good .small) (positions .before .before .unmade-offsets .ensures)
+          (positions .before .no-positions .ensures) (positions .no-positions2 .ensures),
     )
 
 returns : tie.Need-returns
@@ -78,10 +76,9 @@ read-windows-spec =
     no-symbols-requires
     list-symbols-requires
     no-entries-requires
-    no-entries-requires-2
+    unmade-offsets-requires
     no-positions-requires
     no-positions-requires-2
-    no-positions-requires-3
     array-share-prefix-listed
     slice-aggregate-walk-windows
     walk-windows-requires

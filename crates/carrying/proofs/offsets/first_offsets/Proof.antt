@@ -1,20 +1,19 @@
--- `inherit::first_offsets` meets its contract. The invariant: the first i symbols have their offsets.
+-- `offsets::first_offsets` meets its contract. The invariant: the first i symbols have their offsets.
 -- Assumes nothing.
-use mathlib.Core.Path.{_≡_, refl, sym, _∙_, ap}
-use Prim.Native.Nat.{ℕ, _+_, _-_, _*_, _/_, _≤_, _<_}
-use native.Mathlib.Nat.{zero-add, mod-lt}
+use mathlib.Core.Path.{refl}
+use Prim.Native.Nat.{ℕ, _-_, _*_, _/_, _≤_, _<_}
+use native.Mathlib.Nat.{mod-lt}
 use native.Mathlib.Omega.{arith}
 use lib.ListN.{length, getD}
-use borrow.Author.Needs.{needs}
 use denote.Ref.{now}
-use Rattle.carrying.specs.Inheritance.{offsetOf, ImagesTo}
-use Rattle.carrying.specs.Inheritance.Laws.{images-none, images-more, images-all, place-inside, offset-small}
-use Rattle.carrying.proofs.inherit.first_offsets.Statement.{statement}
-use Rattle.carrying.proofs.inherit.first_offsets.Tie as tie
+use Rattle.carrying.specs.Offsets.{OffsetsTo}
+use Rattle.carrying.specs.Offsets.Laws.{offsets-to-none, offsets-to-more, offsets-to-all, offset-small}
+use Rattle.carrying.proofs.offsets.first_offsets.Statement.{statement}
+use Rattle.carrying.proofs.offsets.first_offsets.Tie as tie
 
 abbrev Inv-loop : tie.InvT-loop
 Inv-loop pattern symbols columns height width first offsets₀ i₀ offsets i =
-    ImagesTo (offsetOf columns width) symbols 0 first i offsets
+    OffsetsTo columns width symbols first i offsets
 
 abbrev μ-loop : tie.MeasureT-loop
 μ-loop pattern symbols columns height width first offsets₀ i₀ offsets i = length symbols - i
@@ -36,12 +35,11 @@ small c =
     let o = c .before .before .before .before in
     let i = c .before .before .before .loop .i in
     let s = o .pre .0 in
-    let inside = place-inside _ _ _ i (o .pre .3) (o .pre .1) (c .before .before .loop-test .taken) in
-    offset-small (placeOf c) (o .args .columns) (o .args .height) (o .args .width) (omega (arith, inside, s .cells))
-    (s .height-le) (s .broad) (o .pre .2)
+    offset-small (now (o .args .pattern)) _ _ (o .args .columns) (o .args .height) (o .args .width) i (o .pre .3)
+    (o .pre .1) (c .before .before .loop-test .taken) (s .cells) (s .height-le) (s .broad) (o .pre .2)
 
 loop-holds : tie.Need-loop-holds Inv-loop μ-loop
-loop-holds c = images-none _ _ _ _ _ (c .pre .4)
+loop-holds c = offsets-to-none _ _ _ (now (c .args .first)) _ (c .pre .4)
 
 shared-slice-read-a : tie.Need-shared-slice-read-a Inv-loop μ-loop
 shared-slice-read-a c = omega arith
@@ -84,18 +82,14 @@ loop-less c = omega arith
 loop-again : tie.Need-loop-again Inv-loop μ-loop
 loop-again c =
     let i = c .before .before .before .loop in
-    images-more _ _ _ _ (i .i) _ _ _ (i .inv) refl (byte (c .before)) (sym (zero-add _))
+    offsets-to-more _ _ _ _ (i .i) _ _ _ (i .inv) refl (byte (c .before)) refl
 
 returns : tie.Need-returns Inv-loop μ-loop
 returns c =
     let o = c .before .before in
     let i = c .before .loop in
-    record {
-      first = now (o .args .first);
-      places = o .pre .3;
-      long = i .inv .long;
-      lead = images-all _ _ _ _ (now (o .args .pattern)) (i .i) _ (o .pre .5) (o .pre .1) (c .loop-test .left) (i .inv);
-    }
+    offsets-to-all _ _ _ _ (now (o .args .pattern)) (i .i) _ (o .pre .5) (o .pre .1) (o .pre .3) (c .loop-test .left)
+    (i .inv)
 
 pub first-offsets-spec : {M : Type 1} → statement M
 first-offsets-spec =
