@@ -4,19 +4,16 @@
 pub mod Laws
 use mathlib.Core.Path.{_≡_}
 use mathlib.Core.List.{List}
-use Prim.Native.Nat.{ℕ, _+_, _*_, _/_, _%_, _<_}
+use Prim.Native.Nat.{ℕ, _+_, _*_, _<_}
 use lib.ListN.{length, getD}
 use Rattle.matching.specs.Compare.{patternAt}
 use Rattle.prefixes.specs.State.{FirstPlaces}
+use Rattle.shapes.specs.Windows.{offsetOf}
 use Rattle.shapes.specs.declared.windows.WindowPlace.{WindowPlace}
 
 -- where a window's corner lies in the text
 abbrev pub cornerOf : WindowPlace → ℕ
 cornerOf v = v .row * v .columns + v .column
-
--- how far behind a window's corner its position p lies in the text
-abbrev pub offsetOf : ℕ → ℕ → ℕ → ℕ
-offsetOf columns width p = p / width * columns + p % width
 
 -- what stands as far behind the corner as the symbol's offset says
 abbrev pub imageBehind : List ℕ → ℕ → List ℕ → ℕ → ℕ
@@ -38,7 +35,7 @@ pub record Prepared (pattern : List ℕ) (columns width : ℕ) (offsets : List �
 -- What the inner functions' contracts cite.
 
 -- the first i symbols of a list have their offsets
-pub record OffsetsTo (columns width : ℕ) (symbols first : List ℕ) (i : ℕ) (offsets : List ℕ) : Type 0 where
+pub record OffsetsUpTo (columns width : ℕ) (symbols first : List ℕ) (i : ℕ) (offsets : List ℕ) : Type 0 where
   pub long : length offsets ≡ 257
   pub each : (j : ℕ) → j < i
       → getD offsets (getD symbols j 0) 0 ≡ offsetOf columns width (getD first (getD symbols j 0) 0)

@@ -12,6 +12,7 @@ ghost use Rattle.sweep.specs.Sweep.{SidesOf};
 ghost use Rattle.carrying.specs.Offsets.{imageBehind, Offsets, Prepared};
 use reach::places::first_places;
 use reach::places::no_positions;
+use shapes::windows::cell_offset;
 
 // No offset yet. The last entry is no symbol's: it says whether the others are made.
 pub fn unmade_offsets() -> [usize; 257]
@@ -40,7 +41,7 @@ fn first_offsets(
     while i < symbols.len() {
         let a = symbols[i] as usize;
         let p = first[a];
-        offsets[a] = p / width * columns + p % width;
+        offsets[a] = cell_offset(columns, width, p);
         i += 1;
     }
 }

@@ -22,7 +22,7 @@ use Rattle.matching.specs.Compare.{patternAt, windowOf, cellCount}
 use Rattle.prefixes.specs.Prefixes.{suffix}
 use Rattle.carrying.specs.Carries.{Carried}
 use Rattle.carrying.specs.Offsets.{cornerOf, imageBehind, Offsets}
-use Rattle.carrying.specs.Offsets.Laws.{offset-at}
+use Rattle.shapes.specs.Windows.Laws.{offset-at}
 use Rattle.carrying.specs.Inheritance.{Follows, ownEnd, OwnMade, Above}
 
 -- a window that is carried follows the pattern
@@ -44,7 +44,7 @@ follows-carried text v pattern offsets n leads le follows = record { carries = g
     go p h =
         let q = getD (leads .first) (getD pattern p 0) 0 in
         let f = leads .places .each p (omega arith) in
-        ap (λ (x : ℕ). getD text (cornerOf v + x) 0) (leads .lead p (omega arith)) ∙ offset-at text v q
+        ap (λ (x : ℕ). getD text (cornerOf v + x) 0) (leads .lead p (omega arith)) ∙ offset-at text (v .columns) (v .row) (v .column) (v .width) q
         ∙ follows .same q p (omega (arith, f .0)) h (f .1)
 
 -- ---- the window below

@@ -5,7 +5,7 @@ use mathlib.Core.Path.{_≡_, refl, sym, _∙_, ap}
 use mathlib.Core.Bool.{Bool, true}
 use mathlib.Core.List.{List}
 use Prim.Native.Nat.{ℕ, _+_, _*_, _/_, _≤_, _<_}
-use native.Mathlib.Nat.{add-mul, mul-le-mul, div-lt-iff-lt-mul}
+use native.Mathlib.Nat.{add-mul, mul-le-mul}
 use native.Mathlib.Omega.{arith}
 use lib.ListN.{length, getD, set, replicate, length-set, length-replicate}
 use lib.Seq.{getD-set-same, getD-set-other}
@@ -17,12 +17,12 @@ use Rattle.theory.specs.Count.Laws.{members-all, members-pass}
 use Rattle.grid.specs.Distinct.{contains}
 use Rattle.grid.specs.Distinct.Sets.{contains-tested}
 use Rattle.sets.specs.Symbols.{symbolsOf}
-use Rattle.shapes.specs.Windows.Laws.{window-at}
+use Rattle.shapes.specs.Windows.{offsetOf}
 use Rattle.shapes.specs.declared.windows.WindowPlace.{WindowPlace}
 use Rattle.matching.specs.Compare.{patternAt, windowOf, cellCount, Placed}
 use Rattle.matching.specs.Compare.Positions.{position-inside}
 use Rattle.prefixes.specs.State.{FirstPlaces}
-use Rattle.carrying.specs.Offsets.{cornerOf, offsetOf, Offsets, Prepared, OffsetsTo, ImagesInside}
+use Rattle.carrying.specs.Offsets.{cornerOf, Offsets, Prepared, OffsetsUpTo, ImagesInside}
 
 -- a listed symbol is one of the pattern's
 pub listed-has : (pattern symbols : List ℕ) (i : ℕ) → symbols ≡ symbolsOf pattern → i < length symbols
@@ -54,29 +54,25 @@ pub prepared-made : (pattern : List ℕ) (columns width : ℕ) (offsets : List �
     → Prepared pattern columns width offsets
 prepared-made pattern columns width offsets leads = record { long = leads .long; made = λ _. leads }
 
--- the offset of a listed symbol is a small number
-pub offset-small : (pattern symbols first : List ℕ) (columns height width i : ℕ)
+-- the first place of a listed symbol is a small number
+pub place-small : (pattern symbols first : List ℕ) (height width i : ℕ)
     → FirstPlaces (patternAt pattern) (length pattern) first → symbols ≡ symbolsOf pattern → i < length symbols
-    → length pattern ≡ height * width → height ≤ 255 → 0 < width → columns ≤ 255
-    → getD first (getD symbols i 0) 0 / width * columns ≤ 65025
-offset-small pattern symbols first columns height width i places e h cells tall some narrow =
-    let p = getD first (getD symbols i 0) 0 in
+    → length pattern ≡ height * width → height ≤ 255 → width ≤ 255 → getD first (getD symbols i 0) 0 ≤ 65025
+place-small pattern symbols first height width i places e h cells tall broad =
     let inside = place-inside pattern first (getD symbols i 0) places (listed-has pattern symbols i e h) in
-    let row : p / width < height = div-lt-iff-lt-mul some .1 (omega (arith, inside, cells)) in
-    let le : p / width ≤ 255 = omega arith in
-    omega (arith, mul-le-mul le narrow)
+    omega (arith, inside, cells, mul-le-mul tall broad)
 
 module _ (columns width : ℕ) (symbols first : List ℕ) where
-  pub offsets-to-none : (offsets : List ℕ) → length offsets ≡ 257 → OffsetsTo columns width symbols first 0 offsets
+  pub offsets-to-none : (offsets : List ℕ) → length offsets ≡ 257 → OffsetsUpTo columns width symbols first 0 offsets
   offsets-to-none offsets l = record { long = l; each = λ j h. absurd (none j h) }
     where
       none : (j : ℕ) → j < 0 → ⊥
       none j h = omega arith
 
   -- one symbol more
-  pub offsets-to-more : (i a x : ℕ) (offsets : List ℕ) → OffsetsTo columns width symbols first i offsets
+  pub offsets-to-more : (i a x : ℕ) (offsets : List ℕ) → OffsetsUpTo columns width symbols first i offsets
       → a ≡ getD symbols i 0 → a < 256 → x ≡ offsetOf columns width (getD first a 0)
-      → OffsetsTo columns width symbols first (i + 1) (set offsets a x)
+      → OffsetsUpTo columns width symbols first (i + 1) (set offsets a x)
   offsets-to-more i a x offsets here is small e =
       record { long = rw length-set (here .long); each = λ j h. go j h (eq-tested (getD symbols j 0) a) }
     where
@@ -90,7 +86,7 @@ module _ (columns width : ℕ) (symbols first : List ℕ) where
   -- all of the pattern's
   pub offsets-to-all : (pattern : List ℕ) (i : ℕ) (offsets : List ℕ) → Bytes pattern → symbols ≡ symbolsOf pattern
       → FirstPlaces (patternAt pattern) (length pattern) first → length symbols ≤ i
-      → OffsetsTo columns width symbols first i offsets → Offsets pattern columns width offsets
+      → OffsetsUpTo columns width symbols first i offsets → Offsets pattern columns width offsets
   offsets-to-all pattern i offsets bytes e places all here =
       record { first = first; places = places; long = here .long; lead = go }
     where
@@ -105,13 +101,6 @@ module _ (columns width : ℕ) (symbols first : List ℕ) where
           rw at at (here .each (entry .0) (omega arith))
 
 -- ---- the table is read
-
--- the cell that lies so far behind the window's corner
-pub offset-at : (text : List ℕ) (v : WindowPlace) (p : ℕ)
-    → getD text (cornerOf v + offsetOf (v .columns) (v .width) p) 0 ≡ windowOf text v p
-offset-at text v p =
-    ap (λ (k : ℕ). getD text k 0) (omega (arith, add-mul (v .row) (p / v .width) (v .columns)))
-    ∙ sym (window-at text (v .columns) (v .row) (v .column) (v .width) p)
 
 module _ (text : List ℕ) (v : WindowPlace) (pattern offsets : List ℕ) (placed : Placed text v)
     (size : length pattern ≡ cellCount v) (leads : Offsets pattern (v .columns) (v .width) offsets) where

@@ -12,8 +12,6 @@ use lib.Seq.{drop-cons}
 use Rattle.theory.specs.Older.{Older}
 use Rattle.theory.specs.Test.{both}
 use Rattle.theory.specs.Test.Laws.{true-false}
-use Rattle.theory.specs.Count.Laws.{length-members, count-le}
-use Rattle.grid.specs.Distinct.{contains}
 use Rattle.sets.specs.Symbols.{symbolsOf}
 use Rattle.shapes.specs.declared.refusals.Refusal.{Refusal}
 use Rattle.shapes.specs.declared.refusals.Refusal.the-variants.{ListingForm, ListingFalse}
@@ -58,11 +56,6 @@ pub record PairsLeft (m w : ℕ → ℕ) (n : ℕ) (listing symbols : List ℕ) 
   pub before : List ℕ
   pub marked : Marked base before marks
   pub walk-is : whole ≡ pairsFrom m w n listing (drop i symbols) before end
-
--- no more than 256 symbols are listed
-pub listed-few : (pattern symbols : List ℕ) → symbols ≡ symbolsOf pattern → length symbols ≤ 256
-listed-few pattern symbols e =
-    rw e (omega (arith, length-members (contains pattern) 256, count-le (contains pattern) 256))
 
 module _ (m w : ℕ → ℕ) (n : ℕ) (listing symbols : List ℕ) (base : ℕ) where
   -- all of the pattern's

@@ -3,10 +3,11 @@
 -- Assumes nothing.
 use mathlib.Core.Path.{_≡_, sym, ap, _∙_}
 use mathlib.Core.List.{List}
-use Prim.Native.Nat.{ℕ, _<_}
+use Prim.Native.Nat.{ℕ, _≤_, _<_}
+use native.Mathlib.Omega.{arith}
 use lib.ListN.{length, getD}
 use Rattle.theory.specs.Count.{members}
-use Rattle.theory.specs.Count.Laws.{count-ext, members-ext}
+use Rattle.theory.specs.Count.Laws.{count-ext, count-le, length-members, members-ext}
 use Rattle.shapes.specs.Windows.{windowCells}
 use Rattle.shapes.specs.Windows.Laws.{cells-byte}
 use Rattle.grid.specs.Distinct.{contains, distinct}
@@ -35,3 +36,8 @@ pub window-size : (text : List ℕ) (columns row column height width : ℕ) → 
 window-size text columns row column height width bytes =
     sym (size-distinct (windowCells text columns row column height width)
     (cells-byte text columns row column height width bytes))
+
+-- there are at most 256 symbols
+pub listed-few : (pattern symbols : List ℕ) → symbols ≡ symbolsOf pattern → length symbols ≤ 256
+listed-few pattern symbols e =
+    rw e (omega (arith, length-members (contains pattern) 256, count-le (contains pattern) 256))

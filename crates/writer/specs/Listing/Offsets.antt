@@ -14,7 +14,7 @@ use Rattle.theory.specs.Test.{Tested, holds, fails}
 use Rattle.theory.specs.Test.Laws.{eq-tested, lt-tested, says-true, is-true, true-false}
 use Rattle.theory.specs.First.{first}
 use Rattle.theory.specs.First.Laws.{first-spec}
-use Rattle.theory.specs.Count.Laws.{members-pass, length-members, count-le}
+use Rattle.theory.specs.Count.Laws.{members-pass}
 use Rattle.grid.specs.Distinct.{contains}
 use Rattle.grid.specs.Distinct.Sets.{contains-tested}
 use Rattle.sets.specs.Symbols.{symbolsOf}
@@ -91,11 +91,6 @@ pub listed-symbol : (pattern listed : List ℕ) → listed ≡ symbolsOf pattern
     → (getD listed k 0 < 256) × (contains pattern (getD listed k 0) ≡ true)
 listed-symbol pattern listed e k h = rw e (members-pass (contains pattern) 256 k (rw e at h))
 
--- there are at most 256 of them
-pub listed-few : (pattern listed : List ℕ) → listed ≡ symbolsOf pattern → length listed ≤ 256
-listed-few pattern listed e =
-    omega (arith, ap length e, length-members (contains pattern) 256, count-le (contains pattern) 256)
-
 -- the first k of the offsets are there
 pub record OffsetsTo (pattern : List ℕ) (columns width : ℕ) (listed : List ℕ) (k : ℕ) (offsets : List ℕ) : Type 0 where
   pub long : length offsets ≡ 256
@@ -138,9 +133,9 @@ module _ (pattern : List ℕ) (columns width : ℕ) (listed : List ℕ) where
 module _ (text : List ℕ) (v : WindowPlace) (pattern listed offsets : List ℕ)
     (t : PairTables pattern (v .columns) (v .width) listed offsets) (k : ℕ) (h : k < length listed) where
   -- its cell lies in the text
-  pub offset-inside : Placed text v → length pattern ≡ cellCount v
+  pub pair-inside : Placed text v → length pattern ≡ cellCount v
       → v .row * v .columns + v .column + getD offsets k 0 < length text
-  offset-inside placed size =
+  pair-inside placed size =
       let s = place-stands pattern (getD listed k 0) (listed-symbol pattern listed (t .symbols-are) k h .1) in
       omega (
         arith,

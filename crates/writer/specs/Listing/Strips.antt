@@ -70,8 +70,8 @@ stripWindow s left top = record { columns = s .columns; row = top; column = left
 
 module _ (piece : ℕ → List ℕ) (size : ℕ) (flags : List ℕ) where
   -- the found ones in their order
-  pub found-none : (from to : ℕ) (l : List ℕ) → to ≤ from → Puts piece size (FoundIn flags from to) l l
-  found-none from to l h = puts-none piece size (FoundIn flags from to) l (λ k f. none k f)
+  pub none-put : (from to : ℕ) (l : List ℕ) → to ≤ from → Puts piece size (FoundIn flags from to) l l
+  none-put from to l h = puts-none piece size (FoundIn flags from to) l (λ k f. none k f)
     where
       none : (k : ℕ) → FoundIn flags from to k → ⊥
       none k f = omega (arith, f .since, f .before)

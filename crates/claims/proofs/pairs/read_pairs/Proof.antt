@@ -14,7 +14,8 @@ use Rattle.claims.specs.Claims.{pairsFrom}
 use Rattle.claims.specs.declared.walks.Walk.{Walk}
 use Rattle.carrying.specs.Offsets.Laws.{listed-has}
 use Rattle.claims.specs.Pairs.{symbols-inside}
-use Rattle.claims.specs.Pairs.Rising.{PairsLeft, listed-few, symbols-left-none, left-stopped}
+use Rattle.sets.specs.Symbols.Patterns.{listed-few}
+use Rattle.claims.specs.Pairs.Rising.{PairsLeft, symbols-left-none, left-stopped}
 use Rattle.claims.specs.Pairs.Rising.{left-passed, marks-next}
 use Rattle.claims.proofs.pairs.read_pairs.Statement.{statement}
 use Rattle.claims.proofs.pairs.read_pairs.Tie as tie

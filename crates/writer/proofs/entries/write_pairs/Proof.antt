@@ -11,7 +11,8 @@ use Rattle.theory.specs.Written.{written, length-written}
 use Rattle.theory.specs.Pieces.{Left, left-all, left-long, left-none}
 use Rattle.matching.specs.Compare.Positions.{start-small}
 use Rattle.writer.specs.Listing.Entries.{imagesAt}
-use Rattle.writer.specs.Listing.Offsets.{offset-inside, listed-few}
+use Rattle.writer.specs.Listing.Offsets.{pair-inside}
+use Rattle.sets.specs.Symbols.Patterns.{listed-few}
 use Rattle.writer.specs.Listing.Pairs.{pairBytes, pairs-long, ReadAs, tables-read, pair-room, pair-less}
 use Rattle.writer.specs.Listing.Pairs.{pairs-over}
 use Rattle.sets.specs.Symbols.{symbolsOf}
@@ -47,7 +48,7 @@ inside : (c : tie.After-image Inv-loop μ-loop) →
     < length (now (a .text))
 inside c =
     let o = entry (c .before) in
-    offset-inside (now (o .args .text)) (o .args .v) (now (o .args .pattern)) (now (o .args .listed))
+    pair-inside (now (o .args .text)) (o .args .v) (now (o .args .pattern)) (now (o .args .listed))
     (now (o .args .offsets)) (o .pre .2) _ (c .before .before .loop-test .taken) (o .pre .0) (o .pre .1)
 
 -- what the tables read of this window

@@ -11,7 +11,7 @@ use Rattle.shapes.specs.Shapes.{across, down}
 use Rattle.grid.specs.Counts.Laws.{place-lt, windows-small}
 use Rattle.listing.specs.Entries.Put.{Puts, startOf, start-next, puts-room}
 use Rattle.writer.specs.Listing.Windows.{answered}
-use Rattle.writer.specs.Listing.Strips.{pieceOf, FoundIn, found-none, found-more, row-over, strip-window}
+use Rattle.writer.specs.Listing.Strips.{pieceOf, FoundIn, none-put, found-more, row-over, strip-window}
 use Rattle.writer.specs.Listing.Strips.{strip-piece}
 use Rattle.writer.proofs.found.write_row.Statement.{statement}
 use Rattle.writer.proofs.found.write_row.Tie as tie
@@ -61,7 +61,7 @@ loop-holds c = let o = c .before .before .before .before .before .before .before
     let z : a .top * across (a .s) ≡ a .top * across (a .s) + 0 = omega arith in (
       omega arith,
       o .pre .3 ∙ ap (startOf (pieceOf (now (a .text)) (now (a .pattern)) (a .s))) z,
-      found-none _ _ _ _ _ _
+      none-put _ _ _ _ _ _
           (omega arith),
     )
 

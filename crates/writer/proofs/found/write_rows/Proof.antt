@@ -8,7 +8,7 @@ use Prim.Native.Nat.{ℕ, _-_, _*_, _≤_}
 use denote.Ref.{now}
 use Rattle.shapes.specs.Shapes.{across, down}
 use Rattle.listing.specs.Entries.Put.{Puts, Heads, startOf, start-zero, rows-none, rows-more}
-use Rattle.writer.specs.Listing.Strips.{pieceOf, FoundIn, found-none, rows-found}
+use Rattle.writer.specs.Listing.Strips.{pieceOf, FoundIn, none-put, rows-found}
 use Rattle.writer.proofs.found.write_rows.Statement.{statement}
 use Rattle.writer.proofs.found.write_rows.Tie as tie
 
@@ -38,7 +38,7 @@ loop-holds c = let o = c .before .before .before .before .before .before .before
       sym (ap (startOf (pieceOf (now (a .text)) (now (a .pattern)) (a .s))) z
           ∙ start-zero (pieceOf (now (a .text)) (now (a .pattern)) (a .s))),
       rows-none _ _ 0 0 _ (o .pre .2),
-      found-none _ _ _ _ _ _ (omega (arith, z)),
+      none-put _ _ _ _ _ _ (omega (arith, z)),
     )
 
 mul-heads : tie.Need-mul-heads Inv-loop μ-loop

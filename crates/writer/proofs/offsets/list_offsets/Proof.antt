@@ -6,7 +6,8 @@ use Prim.Native.Nat.{_-_, _≤_, _<_}
 use lib.ListN.{getD}
 use denote.Ref.{now}
 use Rattle.writer.specs.Listing.Offsets.{OffsetsTo, offsets-none, offsets-more, offsets-all}
-use Rattle.writer.specs.Listing.Offsets.{firstPlace, place-listed, place-stands, listed-symbol, listed-few}
+use Rattle.writer.specs.Listing.Offsets.{firstPlace, place-listed, place-stands, listed-symbol}
+use Rattle.sets.specs.Symbols.Patterns.{listed-few}
 use Rattle.writer.proofs.offsets.list_offsets.Statement.{statement}
 use Rattle.writer.proofs.offsets.list_offsets.Tie as tie
 

@@ -9,7 +9,7 @@ use lib.ListN.{length}
 use denote.Ref.{now}
 use Rattle.theory.specs.Older.Laws.{zeros-long}
 use Rattle.writer.specs.Listing.Whole.{pattern-fits}
-use Rattle.writer.specs.Listing.Offsets.{listed-few}
+use Rattle.sets.specs.Symbols.Patterns.{listed-few}
 use Rattle.writer.specs.Listing.Strips.{pieces-length, windows-all}
 use borrow.Author.Needs.{needs}
 use Rattle.writer.proofs.writing.write_windows.Statement.{statement}
