@@ -16,6 +16,8 @@ use Rattle.prefixes.specs.Prefixes.{suffix}
 use Rattle.sweep.specs.Sweep.{SidesOf}
 use Rattle.carrying.specs.Offsets.{Prepared}
 
+-- What the inner functions' contracts cite.
+
 -- where the pattern has equal symbols in its first n positions, so has the window
 pub record Follows (m w : ℕ → ℕ) (n : ℕ) : Type 0 where
   pub same : (q p : ℕ) → q < n → p < n → m q ≡ m p → w q ≡ w p

@@ -17,7 +17,8 @@ use Rattle.listing.specs.Reader.{wholeAt}
 use Rattle.claims.specs.declared.walks.Walk.{Walk}
 use Rattle.claims.specs.declared.walks.Walk.the-variants.{Goes, Stops}
 
--- ---- a walk: `Goes at`, every record so far is right and the next one begins there; or `Stops why`, at the first bad one
+-- ---- a walk: `Goes at`, every record so far is right and the next one begins there; or `Stops why`, at the first bad
+-- one
 
 -- it stops unless the test passes, and otherwise goes on with what comes after
 abbrev pub orStop : Bool → Refusal → Walk → Walk

@@ -30,8 +30,8 @@ use Rattle.claims.specs.Claims.{orStop, byteAt, stands, hasImage, rightP
 use Rattle.claims.specs.declared.walks.Walk.the-variants.{Goes}
 use Rattle.claims.specs.declared.walks.Walk.{Walk}
 
--- a window that stands as found, the offsets that lead from its corner to its symbols' images, and whether it is known
--- to follow the pattern
+-- a window that a found record names: its corner, the offsets that lead from there to its symbols' images, and whether
+-- it is known to follow the pattern
 pub record FoundWindow (text : List ℕ) (v : WindowPlace) (pattern : List ℕ) (carried : Bool) (corner : ℕ)
     (offsets : List ℕ) : Type 0 where
   pub placed : Placed text v

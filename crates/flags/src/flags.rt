@@ -196,8 +196,8 @@ fn clear(links: &mut [u16], n: usize)
     }
 }
 
-// What the pattern says by itself, besides the first places: the first ends of its rows from each row on against itself,
-// and eight pairs of cells that are alike.
+// What the pattern says by itself, besides the first places: the first ends of its rows from each row on against
+// itself, and eight pairs of cells that are alike.
 fn pattern_tables(
     pattern: &[u8],
     s: Shape,
@@ -220,8 +220,8 @@ fn pattern_tables(
     alike_pairs(pattern, first, s.columns, s.width, earlier, later);
 }
 
-// The first step of the search: the count and the flag of every window, where the pattern has so many symbols, with these
-// first places. What it used of the links buffer is 0 afterwards.
+// The first step of the search: the count and the flag of every window, where the pattern has so many symbols, with
+// these first places. What it used of the links buffer is 0 afterwards.
 pub fn flag_all(
     text: &[u8],
     pattern: &[u8],

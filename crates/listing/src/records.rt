@@ -71,7 +71,8 @@ fn put_mismatch(listing: &mut [u8], at: usize, kind: u8, body: MismatchBody)
     listing[at + 6] = body.later.column;
 }
 
-// The kind of a refused window's record: 3 where the two cells are alike in the pattern, 4 where they are in the window.
+// The kind of a refused window's record: 3 where the two cells are alike in the pattern, 4 where they are alike in the
+// window.
 fn mismatch_kind(alike: bool) -> u8
     ensures { λ r. ⌜ r ≡ pick alike 3 4 ⌝ }
 {

@@ -53,26 +53,6 @@ setOf P =
 abbrev pub symbolSet : List ℕ → Symbols
 symbolSet xs = setOf (contains xs)
 
--- a table with an entry for each symbol, all 0 or 1
-pub record Marks (marks : List ℕ) : Type 0 where
-  pub long : length marks ≡ 256
-  pub bits : (v : ℕ) → v < 256 → getD marks v 0 ≤ 1
-
--- the entry is 1 exactly for the symbols that the list has
-pub record MarksOf (xs marks : List ℕ) : Type 0 where
-  pub long : length marks ≡ 256
-  pub each : (v : ℕ) → v < 256 → getD marks v 0 ≡ pick (contains xs v) 1 0
-
--- a table with an entry for each symbol: for those that the list has, a place where the symbol stands
-pub record PlacesOf (xs places : List ℕ) : Type 0 where
-  pub long : length places ≡ 256
-  pub each : (k : ℕ) → k < length xs
-      → (getD places (getD xs k 0) 0 < length xs) × (getD xs (getD places (getD xs k 0) 0) 0 ≡ getD xs k 0)
-
--- n marks from place `at` on as a word, the first as its lowest bit
-pub markWord : List ℕ → ℕ → ℕ → ℕ
-markWord marks at n = wordOf (λ k. eqb (getD marks (at + k) 0) 1) n
-
 -- the symbols of a pattern, rising
 abbrev pub symbolsOf : List ℕ → List ℕ
 symbolsOf pattern = members (contains pattern) 256
@@ -93,3 +73,25 @@ withoutSymbol s v = setOf (λ u. pick (eqb u v) false (has s u))
 unfoldable pub taken : ℕ → Symbols → List ℕ
 taken zero s = []
 taken (suc n) s = lowestOf s ∷ taken n (withoutSymbol s (lowestOf s))
+
+-- What the inner functions' contracts cite.
+
+-- a table with an entry for each symbol, all 0 or 1
+pub record Marks (marks : List ℕ) : Type 0 where
+  pub long : length marks ≡ 256
+  pub bits : (v : ℕ) → v < 256 → getD marks v 0 ≤ 1
+
+-- the entry is 1 exactly for the symbols that the list has
+pub record MarksOf (xs marks : List ℕ) : Type 0 where
+  pub long : length marks ≡ 256
+  pub each : (v : ℕ) → v < 256 → getD marks v 0 ≡ pick (contains xs v) 1 0
+
+-- a table with an entry for each symbol: for those that the list has, a place where the symbol stands
+pub record PlacesOf (xs places : List ℕ) : Type 0 where
+  pub long : length places ≡ 256
+  pub each : (k : ℕ) → k < length xs
+      → (getD places (getD xs k 0) 0 < length xs) × (getD xs (getD places (getD xs k 0) 0) 0 ≡ getD xs k 0)
+
+-- n marks from place `at` on as a word, the first as its lowest bit
+pub markWord : List ℕ → ℕ → ℕ → ℕ
+markWord marks at n = wordOf (λ k. eqb (getD marks (at + k) 0) 1) n

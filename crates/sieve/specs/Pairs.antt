@@ -24,6 +24,8 @@ use Rattle.theory.specs.Match.Even.{Even, even-if}
 use Rattle.shapes.specs.Windows.{offsetOf}
 use Rattle.prefixes.specs.State.{FirstPlaces}
 
+-- What the inner functions' contracts cite.
+
 -- x and y are the offsets of two positions of the pattern with the same symbol
 pub record PairAt (pattern : List ℕ) (columns width x y : ℕ) : Type 0 where
   pub p : ℕ

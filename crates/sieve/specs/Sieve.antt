@@ -18,6 +18,8 @@ use Rattle.prefixes.specs.Prefixes.{suffix}
 use Rattle.prefixes.specs.State.{FirstPlaces}
 use Rattle.sieve.specs.Pairs.{AlikePairs}
 
+-- What the inner functions' contracts cite.
+
 -- a mismatch ends in the window at row top of the strip at column left
 abbrev pub Differs : List ℕ → List ℕ → Shape → ℕ → ℕ → Type 0
 Differs text pattern s left top =

@@ -40,7 +40,7 @@ fn count_found(found: u16, kind: u8) -> u16
     found
 }
 
-// The records of every window, from the listing's first byte, with columns that no window has marked.
+// The records of every window, from the listing's first byte, with tables that no window has used yet.
 fn walk_windows(
     text: &[u8],
     pattern: &[u8],

@@ -44,7 +44,8 @@ follows-carried text v pattern offsets n leads le follows = record { carries = g
     go p h =
         let q = getD (leads .first) (getD pattern p 0) 0 in
         let f = leads .places .each p (omega arith) in
-        ap (λ (x : ℕ). getD text (cornerOf v + x) 0) (leads .lead p (omega arith)) ∙ offset-at text (v .columns) (v .row) (v .column) (v .width) q
+        ap (λ (x : ℕ). getD text (cornerOf v + x) 0) (leads .lead p (omega arith))
+        ∙ offset-at text (v .columns) (v .row) (v .column) (v .width) q
         ∙ follows .same q p (omega (arith, f .0)) h (f .1)
 
 -- ---- the window below

@@ -78,7 +78,8 @@ end-flag m w n =
 module _ (text pattern : List ℕ) (s : Shape) (left : ℕ) (shape : ShapeOf s (length text)) (strip : left < across s)
     (size : length pattern ≡ s .height * s .width) (top : ℕ) where
   answer-here : _≡_ {A = ℕ}
-      (pick (isMatch (answerOf (patternAt pattern) (windowAt text (s .columns) top left (s .width)) (length pattern))) 1 0)
+      (pick (isMatch (answerOf (patternAt pattern) (windowAt text (s .columns) top left (s .width)) (length pattern))) 1
+      0)
       (flagOf text pattern s (top * across s + left))
   unfolding windowFlag
   answer-here = rw (size, corner-row (across s) top left strip, corner-column (across s) top left strip)
@@ -87,7 +88,8 @@ module _ (text pattern : List ℕ) (s : Shape) (left : ℕ) (shape : ShapeOf s (
   pub end-flag-here : _≡_ {A = ℕ}
       (pick
       (ltb
-      (firstEnd (patternAt pattern) (suffix (stripAt text (s .columns) left (s .width)) (top * s .width)) (length pattern))
+      (firstEnd (patternAt pattern) (suffix (stripAt text (s .columns) left (s .width)) (top * s .width))
+      (length pattern))
       (length pattern)) 0 1)
       (flagOf text pattern s (top * across s + left))
   end-flag-here = rw same (end-flag _ _ (length pattern)) ∙ answer-here

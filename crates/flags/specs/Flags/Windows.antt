@@ -24,8 +24,8 @@ use Rattle.flags.specs.Flags.Laws.{strip-part, strip-small}
 use Rattle.flags.specs.Flags.Strips.{flagOf, CountsAre, LinksAre, end-strip-flag}
 use Rattle.flags.specs.Flags.Run.{ClearTo, LinksFrom, OwnEnds, WindowAsked, WindowFlagged}
 
--- what the pattern says by itself: the first places of its symbols, and the first ends of its rows from each row on, for
--- strips of n windows
+-- what the pattern says by itself: the first places of its symbols, and the first ends of its rows from each row on,
+-- for strips of n windows
 pub record Own (pattern : List ℕ) (width n : ℕ) (first selves : List ℕ) : Type 0 where
   pub places : FirstPlaces (λ k. getD pattern k 0) (length pattern) first
   pub ends : OwnEnds pattern width n selves

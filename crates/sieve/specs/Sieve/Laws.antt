@@ -215,7 +215,8 @@ module _ (text pattern : List ℕ) (s : Shape) (left symbols : ℕ) (counts : Li
       over k a b = omega arith
 
   pub below-more : (bottom count : ℕ) → count ≡ getD counts (bottom * across s + left) 0
-      → (count ≡ symbols → Differs text pattern s left bottom) → RowsFrom text pattern s left symbols counts (bottom + 1)
+      → (count ≡ symbols → Differs text pattern s left bottom)
+      → RowsFrom text pattern s left symbols counts (bottom + 1)
       → RowsFrom text pattern s left symbols counts bottom
   below-more bottom count ec told here = record { differ = λ k a b. go k a b (eq-tested k bottom) }
     where
