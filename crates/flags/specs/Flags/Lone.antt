@@ -42,7 +42,7 @@ module _ (text pattern : List ℕ) (symbols : ℕ) (s : Shape) (left : ℕ) (cou
     (shape : ShapeOf s (length text)) (strip : left < across s) (size : length pattern ≡ s .height * s .width)
     (symbols-is : symbols ≡ distinct pattern) (counts-are : CountsAre text s counts) where
   -- a window of the right count in which a mismatch ends, or of another count
-  none-here : (top : ℕ) → top < down s
+  pub none-here : (top : ℕ) → top < down s
       → (getD counts (top * across s + left) 0 ≡ symbols → Differs text pattern s left top)
       → 0 ≡ flagOf text pattern s (top * across s + left)
   none-here top h differ =

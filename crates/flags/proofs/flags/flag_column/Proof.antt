@@ -1,5 +1,5 @@
--- `flags::flag_column` meets its contract: where one window at most may match, its own flag and 0 for the others are
--- the strip's flags (`strip-lone`); else the counts and the links are the text's, so what is written is the flag of
+-- `flags::flag_column` meets its contract: a pattern of one row has its flags; where one window at most may match, its
+-- own flag and 0 for the others are the strip's flags (`strip-lone`); else the counts and the links are the text's, so what is written is the flag of
 -- each window.
 -- Assumes nothing.
 use mathlib.Core.Path.{refl}
@@ -23,35 +23,60 @@ asks o =
       pairs = o .pre .3;
     }
 
-first-wanted-requires : tie.Need-first-wanted-requires
-first-wanted-requires c κs = let o = c .before .before .before .before .before in (asks o, o .pre .0 .room .counts-room)
-
-last-wanted-requires : tie.Need-last-wanted-requires
-last-wanted-requires c κs = let o = c .before .before .before .before .before .before in (asks o, o .pre .0 .room .counts-room, c .first-wanted .ensures .top-le)
-
-lone-flag-requires : tie.Need-lone-flag-requires
-lone-flag-requires c κs = let o = c .before .before .before .before .before .before .before .before in (asks o .strip, c .before .before .first-wanted .ensures .top-le)
-
-lone-flags-requires : tie.Need-lone-flags-requires
-lone-flags-requires c κs =
-    let o = c .before .before .before .before .before .before .before .before .before .before in (
-      record { sized = o .pre .0 .room .shape .sized; cells-is = refl },
-      o .pre .1,
-      c .before .before .before .before .first-wanted .ensures .top-le,
-      search needs,
+row-flags-requires : tie.Need-row-flags-requires
+row-flags-requires c κs =
+    let o = c .before .before .before .before .before .before .before .before in
+    let r = o .pre .0 in (
+      record {
+        room = record {
+          shape = r .room .shape;
+          size = r .room .size;
+          links-room = omega arith;
+          counts-room = r .room .counts-room;
+          flags-room = search needs;
+        };
+        symbols-is = r .symbols-is;
+        counts-are = r .counts-are;
+      },
+      asks o,
+      c .before .if1 .taken,
     )
 
 same-length : tie.Need-same-length
 same-length c = search needs
 
 returns : tie.Need-returns
-returns c =
-    let o = c .before .before .before .before .before .before .before .before .before .before .before .before .before in
+returns c = (c .before .before .row-flags .ensures, kept-same _ _)
+
+first-wanted-requires : tie.Need-first-wanted-requires
+first-wanted-requires c κs = let o = c .before .before .before .before .before .before .before in (asks o, o .pre .0 .room .counts-room)
+
+last-wanted-requires : tie.Need-last-wanted-requires
+last-wanted-requires c κs = let o = c .before .before .before .before .before .before .before .before in (asks o, o .pre .0 .room .counts-room, c .first-wanted .ensures .top-le)
+
+lone-flag-requires : tie.Need-lone-flag-requires
+lone-flag-requires c κs = let o = c .before .before .before .before .before .before .before .before .before .before in (asks o .strip, c .before .before .first-wanted .ensures .top-le)
+
+lone-flags-requires : tie.Need-lone-flags-requires
+lone-flags-requires c κs =
+    let o = c .before .before .before .before .before .before .before .before .before .before .before .before in (
+      record { sized = o .pre .0 .room .shape .sized; cells-is = refl },
+      o .pre .1,
+      c .before .before .before .before .first-wanted .ensures .top-le,
+      search needs,
+    )
+
+same-length-2 : tie.Need-same-length-2
+same-length-2 c = search needs
+
+returns-2 : tie.Need-returns-2
+returns-2 c =
+    let o = c .before .before .before .before .before .before .before .before .before .before .before .before .before .before .before in
     let r = o .pre .0 in
     let a = o .args in (
       strip-lone (now (a .text)) (now (a .pattern)) (a .symbols) (a .s) (a .left) (now (a .counts)) (r .room .shape)
           (o .pre .1) (r .room .size) (r .symbols-is) (r .counts-are) _ _ _ (c .before .before .before .before .before .before .before .first-wanted .ensures)
-          (c .before .before .before .before .before .before .last-wanted .ensures .1) (omega (arith, c .before .before .before .before .before .if1 .taken)) (c .before .before .before .before .lone-flag .ensures)
+          (c .before .before .before .before .before .before .last-wanted .ensures .1) (omega (arith, c .before .before .before .before .before .if2 .taken)) (c .before .before .before .before .lone-flag .ensures)
           (now (a .flags)) _ (c .before .before .lone-flags .ensures),
       kept-same _ _,
     )
@@ -61,7 +86,7 @@ strip-links-requires c κs = search needs
 
 flag-strip-requires : tie.Need-flag-strip-requires
 flag-strip-requires c κs =
-    let o = c .before .before .before .before .before .before .before .before .before .before .before .before .before .before in
+    let o = c .before .before .before .before .before .before .before .before .before .before .before .before .before .before .before .before in
     let r = o .pre .0 .room in (
       record {
         shape = record { sized = r .shape .sized; cells-is = refl };
@@ -74,15 +99,15 @@ flag-strip-requires c κs =
       o .pre .2,
     )
 
-same-length-2 : tie.Need-same-length-2
-same-length-2 c = search needs
-
 same-length-3 : tie.Need-same-length-3
 same-length-3 c = search needs
 
-returns-2 : tie.Need-returns-2
-returns-2 c =
-    let o = c .before .before .before .before .before .before .before .before .before .before .before .before .before .before .before .before .before in
+same-length-4 : tie.Need-same-length-4
+same-length-4 c = search needs
+
+returns-3 : tie.Need-returns-3
+returns-3 c =
+    let o = c .before .before .before .before .before .before .before .before .before .before .before .before .before .before .before .before .before .before .before in
     let r = o .pre .0 in
     let a = o .args in
     let e = same-buffer (c .before .before .before .before .before .before .before .strip-links .ensures) in (
@@ -102,14 +127,17 @@ pub flag-column-spec : {M : Type 1} → statement M
 flag-column-spec =
     tie.close
     (tie.spec
+    row-flags-requires
+    same-length
+    returns
     first-wanted-requires
     last-wanted-requires
     lone-flag-requires
     lone-flags-requires
-    same-length
-    returns
+    same-length-2
+    returns-2
     strip-links-requires
     flag-strip-requires
-    same-length-2
     same-length-3
-    returns-2)
+    same-length-4
+    returns-3)
