@@ -15,6 +15,7 @@ ghost use Rattle.flags.specs.Flags.Windows.{Own, StripFlagged};
 ghost use Rattle.sieve.specs.Pairs.{AlikePairs};
 use crate::lone::lone_flag;
 use crate::lone::lone_flags;
+use crate::one_row::one_wide_row;
 use crate::one_row::row_flags;
 use crate::run::next_flag;
 use grid::counts::distinct_counts;
@@ -99,7 +100,7 @@ fn flag_column(
         (λ top. top * across s + left) (down s) (now (flags .entry)) ⌝ }
     ensures { λ r. ⌜ RestKept (s .rows * s .width) (now (links .entry)) (now (links .exit)) ⌝ }
 {
-    if s.height == 1 {
+    if one_wide_row(s) {
         row_flags(
             text,
             pattern,

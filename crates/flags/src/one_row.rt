@@ -1,6 +1,7 @@
-// A pattern of one row: the windows of a strip have no cell in common, so that nothing is inherited, and links would
-// serve one window each. What tells whether a window may match has then looked at all of it.
+// A pattern of one wide row: the windows of a strip have no cell in common, so that nothing is inherited, and links
+// would serve one window each. What tells whether a window may match has then looked at all of it.
 ghost use mathlib.Core.Path.{_≡_};
+ghost use mathlib.Core.Bool.{true};
 ghost use Prim.Native.Nat.{_+_, _*_};
 ghost use lib.ListN.{length};
 ghost use Rattle.theory.specs.Test.{pick};
@@ -10,6 +11,16 @@ ghost use Rattle.sieve.specs.Sieve.{RowsAsked};
 ghost use Rattle.flags.specs.Flags.Strips.{flagOf, Ready};
 use shapes::shapes::Shape;
 use sieve::wanted::may_match;
+
+// One row, and wide enough for a window to be worth a table of last places of its own.
+pub fn one_wide_row(s: Shape) -> bool
+    ensures { λ r. ⌜ (r ≡ true → s .height ≡ 1) ⌝ }
+{
+    if s.width < 64 {
+        return false;
+    }
+    s.height == 1
+}
 
 // The flag of a window that matches, or that does not.
 fn flag_if(matches: bool) -> u8

@@ -23,6 +23,9 @@ asks o =
       pairs = o .pre .3;
     }
 
+one-wide-row-requires : tie.Need-one-wide-row-requires
+one-wide-row-requires c κs = tt
+
 row-flags-requires : tie.Need-row-flags-requires
 row-flags-requires c κs =
     let o = c .before .before .before .before .before .before .before .before in
@@ -39,7 +42,7 @@ row-flags-requires c κs =
         counts-are = r .counts-are;
       },
       asks o,
-      c .before .if1 .taken,
+      c .before .before .one-wide-row .ensures (c .before .if1 .taken),
     )
 
 same-length : tie.Need-same-length
@@ -127,6 +130,7 @@ pub flag-column-spec : {M : Type 1} → statement M
 flag-column-spec =
     tie.close
     (tie.spec
+    one-wide-row-requires
     row-flags-requires
     same-length
     returns
