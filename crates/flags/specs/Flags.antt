@@ -7,7 +7,6 @@ pub mod Steps
 pub mod Run
 pub mod Windows
 pub mod Lone
-pub mod OneRow
 pub mod Laws
 use mathlib.Core.Path.{_≡_}
 use mathlib.Core.Bool.{Bool, true}

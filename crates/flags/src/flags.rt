@@ -15,7 +15,6 @@ ghost use Rattle.flags.specs.Flags.Windows.{Own, StripFlagged};
 ghost use Rattle.sieve.specs.Pairs.{AlikePairs};
 use crate::lone::lone_flag;
 use crate::lone::lone_flags;
-use crate::one_row::one_wide_row;
 use crate::one_row::row_flags;
 use crate::run::next_flag;
 use grid::counts::distinct_counts;
@@ -100,7 +99,7 @@ fn flag_column(
         (λ top. top * across s + left) (down s) (now (flags .entry)) ⌝ }
     ensures { λ r. ⌜ RestKept (s .rows * s .width) (now (links .entry)) (now (links .exit)) ⌝ }
 {
-    if one_wide_row(s) {
+    if s.height == 1 {
         row_flags(
             text,
             pattern,
@@ -139,7 +138,8 @@ fn flag_column(
         top,
     );
     if bottom <= top {
-        let flag = lone_flag(text, pattern, first, s, left, top);
+        let mut last = no_positions();
+        let flag = lone_flag(text, pattern, first, s, left, top, &mut last);
         lone_flags(s, left, top, flag, flags);
         return;
     }

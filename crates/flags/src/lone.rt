@@ -4,17 +4,18 @@ ghost use Prim.Native.Nat.{_+_, _*_, _≤_, _<_};
 ghost use lib.Dec.{eqb};
 ghost use lib.ListN.{length};
 ghost use Rattle.theory.specs.Test.{pick};
+ghost use Rattle.theory.specs.Older.{Older};
 ghost use Rattle.theory.specs.Store.{stored};
 ghost use Rattle.shapes.specs.Shapes.{ShapeOf, across, down};
 ghost use Rattle.flags.specs.Flags.Strips.{flagOf};
 ghost use Rattle.sieve.specs.Sieve.{StripAsked};
 use crate::run::flag_by;
 use grid::strips::Strip;
-use reach::places::no_positions;
 use reach::reach::reach;
 use shapes::shapes::Shape;
 
-// The flag of the window at row top, or 0 where there is no such window.
+// The flag of the window at row top, or 0 where there is no such window. The table of last places is lent: what earlier
+// windows left in it lies before this one.
 pub fn lone_flag(
     text: &[u8],
     pattern: &[u8],
@@ -22,10 +23,14 @@ pub fn lone_flag(
     s: Shape,
     left: usize,
     top: usize,
+    last: &mut [usize; 256],
 ) -> u8
-    requires { ⌜ StripAsked (now text) (now pattern) (now first) s left × (top ≤ down s) ⌝ }
+    requires { ⌜
+        StripAsked (now text) (now pattern) (now first) s left × (top ≤ down s)
+        × Older (top * s .width + 1) (now last) ⌝ }
     ensures { λ r. ⌜
         (top < down s → r ≡ flagOf (now (text .entry)) (now (pattern .entry)) s (top * across s + left)) ⌝ }
+    ensures { λ r. ⌜ Older ((top + s .height) * s .width + 1) (now (last .exit)) ⌝ }
 {
     if s.rows < top + s.height {
         return 0;
@@ -36,8 +41,7 @@ pub fn lone_flag(
         left,
         width: s.width,
     };
-    let mut last = no_positions();
-    let r = reach(text, t, pattern, first, &mut last, top, s.height, top, 0);
+    let r = reach(text, t, pattern, first, last, top, s.height, top, 0);
     let end = r.place - top * s.width;
     flag_by(end, pattern.len())
 }

@@ -26,14 +26,7 @@ Differs text pattern s left top =
     firstEnd (λ k. getD pattern k 0) (suffix (stripAt text (s .columns) left (s .width)) (top * s .width))
     (length pattern) < length pattern
 
--- none ends in it: the window matches
-abbrev pub Agrees : List ℕ → List ℕ → Shape → ℕ → ℕ → Type 0
-Agrees text pattern s left top =
-    length pattern
-    ≤ firstEnd (λ k. getD pattern k 0) (suffix (stripAt text (s .columns) left (s .width)) (top * s .width))
-    (length pattern)
-
--- a mismatch ends in every window of the right count above row top
+-- in every window of the right count above row top
 pub record RowsTo (text pattern : List ℕ) (s : Shape) (left symbols : ℕ) (counts : List ℕ) (top : ℕ) : Type 0 where
   pub top-le : top ≤ down s
   pub differ : (k : ℕ) → k < top → getD counts (k * across s + left) 0 ≡ symbols → Differs text pattern s left k

@@ -1,13 +1,12 @@
 // Which windows of a strip may match: those of the right count that agree with the pattern in its pairs and its first
 // rows. Where one may and no more, the strip needs no links.
 ghost use mathlib.Core.Path.{_≡_};
-ghost use mathlib.Core.Bool.{true, false};
+ghost use mathlib.Core.Bool.{false};
 ghost use Prim.Native.Nat.{_+_, _*_, _≤_, _<_};
 ghost use lib.ListN.{length};
 ghost use Rattle.shapes.specs.Shapes.{across, down};
 ghost use Rattle.sieve.specs.Pairs.{AlikePairs};
-ghost use Rattle.sieve.specs.Sieve.{Differs, Agrees, RowsTo, RowsFrom, RowsAsked};
-ghost use Rattle.sieve.specs.Sieve.{firstRows};
+ghost use Rattle.sieve.specs.Sieve.{Differs, RowsTo, RowsFrom, RowsAsked, firstRows};
 use crate::pairs::pairs_alike;
 use grid::strips::Strip;
 use reach::places::no_positions;
@@ -27,10 +26,9 @@ fn first_rows(height: usize, width: usize) -> usize
     height
 }
 
-// False only where the window at row top does not match: it has another count, a pair of the pattern's is not alike in
-// it, or it does not agree with the pattern in its first rows. Where the pattern has one row, that row is all of it, and
-// true says that the window matches.
-pub fn may_match(
+// False only where the window at row top does not match: it has another count, or a pair of the pattern's is not alike
+// in it.
+pub fn pairs_pass(
     text: &[u8],
     pattern: &[u8],
     first: &[usize; 256],
@@ -46,7 +44,6 @@ pub fn may_match(
         RowsAsked (now text) (now pattern) (now first) (now earlier) (now later) s left × (top < down s) ⌝ }
     ensures { λ r. ⌜
         (r ≡ false → count ≡ symbols → Differs (now (text .entry)) (now (pattern .entry)) s left top) ⌝ }
-    ensures { λ r. ⌜ (r ≡ true → s .height ≡ 1 → Agrees (now (text .entry)) (now (pattern .entry)) s left top) ⌝ }
 {
     if count != symbols {
         return false;
@@ -55,7 +52,40 @@ pub fn may_match(
     if !pairs_alike(text, corner, earlier, later, 0) {
         return false;
     }
-    if !pairs_alike(text, corner, earlier, later, 4) {
+    pairs_alike(text, corner, earlier, later, 4)
+}
+
+// False only where the window at row top does not match: it has another count, a pair of the pattern's is not alike in
+// it, or it does not agree with the pattern in its first rows.
+fn may_match(
+    text: &[u8],
+    pattern: &[u8],
+    first: &[usize; 256],
+    earlier: &[usize; 8],
+    later: &[usize; 8],
+    symbols: u16,
+    count: u16,
+    s: Shape,
+    left: usize,
+    top: usize,
+) -> bool
+    requires { ⌜
+        RowsAsked (now text) (now pattern) (now first) (now earlier) (now later) s left × (top < down s) ⌝ }
+    ensures { λ r. ⌜
+        (r ≡ false → count ≡ symbols → Differs (now (text .entry)) (now (pattern .entry)) s left top) ⌝ }
+{
+    if !pairs_pass(
+        text,
+        pattern,
+        first,
+        earlier,
+        later,
+        symbols,
+        count,
+        s,
+        left,
+        top,
+    ) {
         return false;
     }
     let t = Strip {

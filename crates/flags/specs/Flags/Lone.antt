@@ -5,12 +5,14 @@ use mathlib.Core.Path.{_≡_, refl, sym, _∙_, ap}
 use mathlib.Core.Bool.{Bool}
 use mathlib.Core.List.{List}
 use Prim.Native.Nat.{ℕ, _+_, _-_, _*_, _≤_, _<_}
+use native.Mathlib.Nat.{add-mul}
 use native.Mathlib.Omega.{arith}
 use borrow.Author.Tests.{lt-ltb, eq-eqb, ne-eqb}
 use lib.Dec.{eqb, ltb}
 use lib.ListN.{length, getD}
 use Rattle.theory.specs.Test.{pick, Tested, holds, fails}
 use Rattle.theory.specs.Test.Laws.{eq-tested, lt-tested, pick-true, pick-false}
+use Rattle.theory.specs.Older.{Older}
 use Rattle.theory.specs.Store.{stored}
 use Rattle.theory.specs.Store.Laws.{stored-ext}
 use Rattle.shapes.specs.Shapes.{ShapeOf, across, down}
@@ -21,10 +23,24 @@ use Rattle.grid.specs.Distinct.{distinct}
 use Rattle.grid.specs.Strips.{stripFrom}
 use Rattle.prefixes.specs.Prefixes.{suffix}
 use Rattle.reach.specs.Reach.{Reached}
+use Rattle.reach.specs.declared.reach.Far.{Far}
+use Rattle.grid.specs.declared.strips.Strip.{Strip}
 use Rattle.sieve.specs.Sieve.{Differs, RowsTo, RowsFrom, StripAsked}
 use Rattle.flags.specs.Flags.Strips.{flagOf, CountsAre, end-flag-here, end-strip-flag}
 use Rattle.flags.specs.Flags.Run.{flagByEnd}
 use Rattle.flags.specs.Flags.Run.Laws.{by-end, by-count}
+
+-- last places that lie before a window lie before its end
+pub older-past : (top height width : ℕ) (l : List ℕ) → Older (top * width + 1) l → Older ((top + height) * width + 1) l
+older-past top height width l o =
+    record { long = o .long; below = λ k. omega (arith, o .below k, add-mul top height width) }
+
+-- and so do those that its comparison leaves
+pub older-reached : (text pattern : List ℕ) (t : Strip) (top height : ℕ) (r : Far) (last : List ℕ)
+    → Reached text t pattern top height r last → Older ((top + height) * t .width + 1) last
+older-reached text pattern t top height r last got =
+    let o = got .swept .lasts .older in
+    record { long = o .long; below = λ k. omega (arith, o .below k, got .within) }
 
 -- how far the lone window agrees tells its flag
 pub lone-flag : (text pattern first : List ℕ) (s : Shape) (left top : ℕ) → StripAsked text pattern first s left

@@ -2,19 +2,19 @@
 -- agree say of a window, and window after window.
 -- Assumes nothing.
 use mathlib.Core.Path.{_≡_, refl, sym, _∙_, ap}
-use mathlib.Core.Bool.{Bool, true, false}
+use mathlib.Core.Bool.{Bool, false}
 use mathlib.Core.List.{List}
 use Prim.Native.Nat.{ℕ, _+_, _-_, _*_, _/_, _%_, _≤_, _<_}
 use native.Mathlib.Nat.{add-zero, one-mul, add-mul, mul-le-mul-right, mod-lt, div-lt-iff-lt-mul}
 use native.Mathlib.Omega.{arith}
 use lib.Dec.{eqb}
-use lib.ListN.{length, getD, replicate}
+use lib.ListN.{length, getD}
 use Rattle.theory.specs.Test.{pick, Tested, holds, fails}
-use Rattle.theory.specs.Test.Laws.{eq-tested, lt-tested, says-false, says-true, true-false}
+use Rattle.theory.specs.Test.Laws.{eq-tested, lt-tested, says-false, true-false}
 use Rattle.theory.specs.First.{First, first, every}
 use Rattle.theory.specs.First.Laws.{first-spec, every-tested}
 use Rattle.theory.specs.Match.{ends, firstEnd}
-use Rattle.theory.specs.Older.Laws.{older-zeros}
+use Rattle.theory.specs.Older.{Older}
 use Rattle.shapes.specs.Shapes.{ShapeOf, across, down}
 use Rattle.shapes.specs.Shapes.Laws.{product-le}
 use Rattle.shapes.specs.Windows.{windowAt, stripAt, offsetOf}
@@ -26,8 +26,7 @@ use Rattle.prefixes.specs.State.Laws.{swept-none}
 use Rattle.reach.specs.Reach.{ReachAt, Reached}
 use Rattle.reach.specs.Reach.Laws.{window-suffix}
 use Rattle.sieve.specs.Pairs.{PairAt, PairsInside, alikeAt, clear-alike}
-use Rattle.sieve.specs.Sieve.{Differs, Agrees, RowsTo, RowsFrom, StripAsked, RowsAsked}
-use Rattle.sieve.specs.Sieve.{firstRows}
+use Rattle.sieve.specs.Sieve.{Differs, RowsTo, RowsFrom, StripAsked, RowsAsked, firstRows}
 
 -- a mismatch that ends in the first k positions ends in all n
 early : (m w : ℕ → ℕ) (n k f : ℕ) → f ≡ firstEnd m w k → f < k → k ≤ n → firstEnd m w n < n
@@ -45,14 +44,6 @@ rows-fit height width rows e = rw e (go (lt-tested (2 + 15 / width) height))
     go : {b : Bool} → Tested (2 + 15 / width < height) b → pick b (2 + 15 / width) height ≤ height
     go (holds x) = omega arith
     go (fails x) = omega arith
-
--- one row is all of one
-pub rows-one : (height width rows : ℕ) → rows ≡ firstRows height width → height ≡ 1 → rows ≡ height
-rows-one height width rows e one = e ∙ go (lt-tested (2 + 15 / width) height)
-  where
-    go : {b : Bool} → Tested (2 + 15 / width < height) b → pick b (2 + 15 / width) height ≡ height
-    go (holds x) = absurd (omega arith)
-    go (fails x) = refl
 
 -- ---- the pairs of one window
 
@@ -165,7 +156,7 @@ module _ (text pattern first : List ℕ) (s : Shape) (left top : ℕ) (asked : S
     pub rows-down : top + rows ≤ s .rows
     rows-down = let v = asked .shape in omega (arith, inside, fit)
 
-    pub rows-ask : (last : List ℕ) → last ≡ replicate 256 0
+    pub rows-ask : (last : List ℕ) → Older (top * s .width + 1) last
         → ReachAt text (stripFrom (s .rows) (s .columns) (s .width) left) pattern first last top rows top 0
     rows-ask last e =
         let v = asked .shape in
@@ -176,7 +167,7 @@ module _ (text pattern first : List ℕ) (s : Shape) (left top : ℕ) (asked : S
           places = asked .places;
           narrow = omega arith;
           within = omega (arith, add-mul top rows (s .width));
-          swept = rw add-zero (swept-none _ _ (top * s .width) last (older-zeros _ last (omega arith) e));
+          swept = rw add-zero (swept-none _ _ (top * s .width) last e);
         }
 
     pub rows-small : (top + rows) * s .width ≤ 65025
@@ -194,18 +185,6 @@ module _ (text pattern first : List ℕ) (s : Shape) (left top : ℕ) (asked : S
         let d : place ≡ (top + rows) * s .width → ⊥ = n in
         early _ _ (length pattern) (rows * s .width) (place - top * s .width) (got .end .end-is)
         (omega (arith, got .within, got .swept .order, add-mul top rows (s .width))) cells-fit
-
-    -- a window that agrees in all rows
-    pub rows-agree : (place earlier : ℕ) (last : List ℕ)
-        → Reached text (stripFrom (s .rows) (s .columns) (s .width) left) pattern top rows
-        (record { place = place; earlier = earlier }) last
-        → eqb place ((top + rows) * s .width) ≡ true → rows ≡ s .height → Agrees text pattern s left top
-    rows-agree place earlier last got e all =
-        let same = says-true (eq-tested place ((top + rows) * s .width)) e in
-        let n : rows * s .width ≡ length pattern = ap (λ (r : ℕ). r * s .width) all ∙ sym (asked .size) in
-        let end = got .end .end-is in
-        let whole = rw n at end in
-        omega (arith, whole, same, n, add-mul top rows (s .width))
 
 -- ---- window after window
 

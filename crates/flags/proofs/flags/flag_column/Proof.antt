@@ -5,6 +5,7 @@
 use mathlib.Core.Path.{refl}
 use native.Mathlib.Omega.{arith}
 use denote.Ref.{now}
+use Rattle.theory.specs.Older.Laws.{older-zeros}
 use Rattle.shapes.specs.Said.Laws.{same-buffer}
 use Rattle.flags.specs.Flags.Links.{kept-same, strip-links-written, strip-links-kept}
 use Rattle.sieve.specs.Sieve.{RowsAsked}
@@ -23,9 +24,6 @@ asks o =
       pairs = o .pre .3;
     }
 
-one-wide-row-requires : tie.Need-one-wide-row-requires
-one-wide-row-requires c κs = tt
-
 row-flags-requires : tie.Need-row-flags-requires
 row-flags-requires c κs =
     let o = c .before .before .before .before .before .before .before .before in
@@ -42,7 +40,7 @@ row-flags-requires c κs =
         counts-are = r .counts-are;
       },
       asks o,
-      c .before .before .one-wide-row .ensures (c .before .if1 .taken),
+      c .before .if1 .taken,
     )
 
 same-length : tie.Need-same-length
@@ -57,15 +55,23 @@ first-wanted-requires c κs = let o = c .before .before .before .before .before 
 last-wanted-requires : tie.Need-last-wanted-requires
 last-wanted-requires c κs = let o = c .before .before .before .before .before .before .before .before in (asks o, o .pre .0 .room .counts-room, c .first-wanted .ensures .top-le)
 
+no-positions-requires : tie.Need-no-positions-requires
+no-positions-requires c κs = tt
+
 lone-flag-requires : tie.Need-lone-flag-requires
-lone-flag-requires c κs = let o = c .before .before .before .before .before .before .before .before .before .before in (asks o .strip, c .before .before .first-wanted .ensures .top-le)
+lone-flag-requires c κs =
+    let o = c .before .before .before .before .before .before .before .before .before .before .before .before in (
+      asks o .strip,
+      c .before .before .before .before .first-wanted .ensures .top-le,
+      older-zeros _ _ (omega arith) (c .before .no-positions .ensures),
+    )
 
 lone-flags-requires : tie.Need-lone-flags-requires
 lone-flags-requires c κs =
-    let o = c .before .before .before .before .before .before .before .before .before .before .before .before in (
+    let o = c .before .before .before .before .before .before .before .before .before .before .before .before .before .before in (
       record { sized = o .pre .0 .room .shape .sized; cells-is = refl },
       o .pre .1,
-      c .before .before .before .before .first-wanted .ensures .top-le,
+      c .before .before .before .before .before .before .first-wanted .ensures .top-le,
       search needs,
     )
 
@@ -74,12 +80,12 @@ same-length-2 c = search needs
 
 returns-2 : tie.Need-returns-2
 returns-2 c =
-    let o = c .before .before .before .before .before .before .before .before .before .before .before .before .before .before .before in
+    let o = c .before .before .before .before .before .before .before .before .before .before .before .before .before .before .before .before .before in
     let r = o .pre .0 in
     let a = o .args in (
       strip-lone (now (a .text)) (now (a .pattern)) (a .symbols) (a .s) (a .left) (now (a .counts)) (r .room .shape)
-          (o .pre .1) (r .room .size) (r .symbols-is) (r .counts-are) _ _ _ (c .before .before .before .before .before .before .before .first-wanted .ensures)
-          (c .before .before .before .before .before .before .last-wanted .ensures .1) (omega (arith, c .before .before .before .before .before .if2 .taken)) (c .before .before .before .before .lone-flag .ensures)
+          (o .pre .1) (r .room .size) (r .symbols-is) (r .counts-are) _ _ _ (c .before .before .before .before .before .before .before .before .before .first-wanted .ensures)
+          (c .before .before .before .before .before .before .before .before .last-wanted .ensures .1) (omega (arith, c .before .before .before .before .before .before .before .if2 .taken)) (c .before .before .before .before .lone-flag .ensures .0)
           (now (a .flags)) _ (c .before .before .lone-flags .ensures),
       kept-same _ _,
     )
@@ -130,12 +136,12 @@ pub flag-column-spec : {M : Type 1} → statement M
 flag-column-spec =
     tie.close
     (tie.spec
-    one-wide-row-requires
     row-flags-requires
     same-length
     returns
     first-wanted-requires
     last-wanted-requires
+    no-positions-requires
     lone-flag-requires
     lone-flags-requires
     same-length-2

@@ -1,30 +1,32 @@
--- `one_row::row_flags` meets its contract. The invariant: the flags of the windows passed are written; each is the
--- window's, since the test has looked at all of it (`row-flag`).
+-- `one_row::row_flags` meets its contract. The invariant: the flags of the windows passed are written, and what they left
+-- in the table of last places lies before the next one.
 -- Assumes nothing.
-use mathlib.Core.Path.{_≡_, refl, sym, ap, _∙_}
+use mathlib.Core.Path.{_≡_, sym, ap, _∙_}
 use native.Mathlib.Omega.{arith}
 use native.Mathlib.Numerals.{add-one}
 use Prim.Native.Nat.{_+_, _-_, _*_, _≤_, _<_}
 use lib.ListN.{length}
 use denote.Ref.{now}
+use Rattle.theory.specs.Older.{Older}
+use Rattle.theory.specs.Older.Laws.{older-zeros}
 use Rattle.theory.specs.Store.{stored}
 use Rattle.theory.specs.Store.Laws.{stored-none, length-stored, stored-more}
 use Rattle.shapes.specs.Shapes.{across, down}
 use Rattle.grid.specs.Counts.Laws.{place-lt, windows-small}
 use Rattle.flags.specs.Flags.Strips.{flagOf}
-use Rattle.flags.specs.Flags.OneRow.{row-flag}
 use Rattle.flags.proofs.one_row.row_flags.Statement.{statement}
 use Rattle.flags.proofs.one_row.row_flags.Tie as tie
 
 abbrev Inv-loop : tie.InvT-loop
-Inv-loop text pattern first earlier later symbols s left counts flags₀ wide tall top₀ flags top =
+Inv-loop text pattern first earlier later symbols s left counts flags₀ wide tall last₀ top₀ flags last top =
     (top ≤ tall) × (flags ≡ stored (flagOf text pattern s) (λ top. top * across s + left) top flags₀)
+    × Older (top * s .width + 1) last
 
 abbrev μ-loop : tie.MeasureT-loop
-μ-loop text pattern first earlier later symbols s left counts flags₀ wide tall top₀ flags top = tall - top
+μ-loop text pattern first earlier later symbols s left counts flags₀ wide tall last₀ top₀ flags last top = tall - top
 
 abbrev entry : tie.In-loop Inv-loop μ-loop → tie.Start Inv-loop μ-loop
-entry c = c .before .before .before .before .before .before .before .before .before .before
+entry c = c .before .before .before .before .before .before .before .before .before .before .before
 
 -- the place of the window whose flag is written
 place-in : (c : tie.In-loop Inv-loop μ-loop) → let a = entry c .args in
@@ -39,10 +41,10 @@ place-small : (c : tie.In-loop Inv-loop μ-loop) → let a = entry c .args in
 place-small c = let o = entry c in omega (arith, place-in c, windows-small (o .args .s) _ (o .pre .0 .room .shape))
 
 length-flags : (c : tie.At-loop Inv-loop μ-loop)
-    → length (c .loop .flags) ≡ length (now (c .before .before .before .before .before .before .before .before .before .args .flags))
+    → length (c .loop .flags) ≡ length (now (c .before .before .before .before .before .before .before .before .before .before .args .flags))
 length-flags c = ap length (c .loop .inv .1) ∙ length-stored _ _ (c .loop .top) _
 
-all : (c : tie.After-loop Inv-loop μ-loop) → c .before .loop .top ≡ down (c .before .before .before .before .before .before .before .before .before .before .args .s)
+all : (c : tie.After-loop Inv-loop μ-loop) → c .before .loop .top ≡ down (c .before .before .before .before .before .before .before .before .before .before .before .args .s)
 all c = omega (arith, c .loop-test .left, c .before .loop .inv .0)
 
 add-across : tie.Need-add-across Inv-loop μ-loop
@@ -57,53 +59,62 @@ add-down c = omega (arith, c .before .before .before .before .before .before .be
 sub-down : tie.Need-sub-down Inv-loop μ-loop
 sub-down c = omega (arith, c .before .before .before .before .before .before .before .before .pre .0 .room .shape)
 
+no-positions-requires : tie.Need-no-positions-requires Inv-loop μ-loop
+no-positions-requires c κs = tt
+
 loop-holds : tie.Need-loop-holds Inv-loop μ-loop
-loop-holds c = (omega arith, sym (stored-none _ _ _))
+loop-holds c = (omega arith, sym (stored-none _ _ _), older-zeros _ _ (omega arith) (c .no-positions .ensures))
 
-mul-k : tie.Need-mul-k Inv-loop μ-loop
-mul-k c = omega (arith, place-small c)
+row-flag-requires : tie.Need-row-flag-requires Inv-loop μ-loop
+row-flag-requires c κs =
+    let i = c .before in
+    let o = entry i in
+    let r = o .pre .0 in (
+      record {
+        room = record {
+          shape = r .room .shape;
+          size = r .room .size;
+          links-room = omega arith;
+          counts-room = r .room .counts-room;
+          flags-room = omega arith;
+        };
+        symbols-is = r .symbols-is;
+        counts-are = r .counts-are;
+      },
+      o .pre .1,
+      i .loop-test .taken,
+      o .pre .2,
+      i .before .loop .inv .2,
+    )
 
-add-k : tie.Need-add-k Inv-loop μ-loop
-add-k c = omega (arith, place-small c)
+mul-flags : tie.Need-mul-flags Inv-loop μ-loop
+mul-flags c = omega (arith, place-small (c .before .before))
 
-mul-may-match : tie.Need-mul-may-match Inv-loop μ-loop
-mul-may-match c = omega (arith, place-small c)
-
-shared-slice-read-may-match : tie.Need-shared-slice-read-may-match Inv-loop μ-loop
-shared-slice-read-may-match c = let i = c .before in omega (arith, place-in i, entry i .pre .0 .room .counts-room)
-
-may-match-requires : tie.Need-may-match-requires Inv-loop μ-loop
-may-match-requires c κs = let i = c .before in (entry i .pre .1, i .loop-test .taken)
-
-flag-if-requires : tie.Need-flag-if-requires Inv-loop μ-loop
-flag-if-requires c κs = tt
+add-flags : tie.Need-add-flags Inv-loop μ-loop
+add-flags c = omega (arith, place-small (c .before .before))
 
 slice-write-flags : tie.Need-slice-write-flags Inv-loop μ-loop
 slice-write-flags c =
-    let i = c .before .before .before in
+    let i = c .before .before in
     omega (arith, place-in i, length-flags (i .before), entry i .pre .0 .room .flags-room)
 
 add-top : tie.Need-add-top Inv-loop μ-loop
-add-top c = let i = c .before .before .before in omega (arith, i .loop-test .taken, entry i .pre .0 .room .shape)
+add-top c = let i = c .before .before in omega (arith, i .loop-test .taken, entry i .pre .0 .room .shape)
 
 loop-less : tie.Need-loop-less Inv-loop μ-loop
-loop-less c = omega (arith, c .before .before .before .loop-test .taken)
+loop-less c = omega (arith, c .before .before .loop-test .taken)
 
 loop-again : tie.Need-loop-again Inv-loop μ-loop
 loop-again c =
-    let i = c .before .before .before in
-    let o = entry i in
-    let a = o .args in
-    let r = o .pre .0 in
-    let t = c .before .may-match .ensures in
-    let l = i .before .loop in (
+    let i = c .before .before in
+    let a = entry i .args in
+    let l = i .before .loop in
+    let got = c .row-flag .ensures in (
       omega (arith, i .loop-test .taken),
       rw (add-one (l .top))
           (stored-more (flagOf (now (a .text)) (now (a .pattern)) (a .s)) (λ top. top * across (a .s) + a .left) _ _ _ _
-          (l .inv .1)
-          (row-flag (now (a .text)) (now (a .pattern)) (a .symbols) (a .s) (a .left) (now (a .counts)) (r .room .shape)
-          (o .pre .1 .strip .beside) (r .room .size) (r .symbols-is) (r .counts-are) (l .top) (i .loop-test .taken) _ _
-          (c .flag-if .ensures) (t .0) (λ e. t .1 e (o .pre .2)))),
+          (l .inv .1) (got .0)),
+      got .1,
     )
 
 same-length : tie.Need-same-length Inv-loop μ-loop
@@ -122,13 +133,11 @@ row-flags-spec =
     sub-across
     add-down
     sub-down
+    no-positions-requires
     loop-holds
-    mul-k
-    add-k
-    mul-may-match
-    shared-slice-read-may-match
-    may-match-requires
-    flag-if-requires
+    row-flag-requires
+    mul-flags
+    add-flags
     slice-write-flags
     add-top
     loop-less

@@ -74,7 +74,7 @@ loop-less c = omega (arith, c .before .before .before .loop-test .taken)
 loop-again : tie.Need-loop-again Inv-loop μ-loop
 loop-again c =
     let i = c .before .before .before in
-    rows-more _ _ _ _ _ _ _ _ (i .loop-test .taken) refl (c .before .may-match .ensures .0 (c .if1 .left))
+    rows-more _ _ _ _ _ _ _ _ (i .loop-test .taken) refl (c .before .may-match .ensures (c .if1 .left))
     (i .before .loop .inv)
 
 returns-2 : tie.Need-returns-2 Inv-loop μ-loop

@@ -83,7 +83,7 @@ loop-again c =
     let i = c .before .before .before in
     let b = i .before .loop .bottom in (
       omega (arith, i .before .loop .inv .0),
-      below-more _ _ _ _ _ _ _ _ refl (c .before .may-match .ensures .0 (c .if1 .left))
+      below-more _ _ _ _ _ _ _ _ refl (c .before .may-match .ensures (c .if1 .left))
           (below-less _ _ _ _ _ _ b _ (omega (arith, i .loop-test .taken)) (i .before .loop .inv .1)),
     )
 
