@@ -18,6 +18,7 @@ pub fn classes() -> Vec<Class> {
     all.extend(many_symbols());
     all.extend(small());
     all.extend(thin());
+    all.extend(flat());
     all
 }
 
@@ -145,30 +146,27 @@ fn thin() -> impl Iterator<Item = Class> {
         .flat_map(move |symbols| sides.map(|sides| random_apart(symbols, sides)));
     let constant: Rule = |_, _| 0;
     let stripes: Rule = |_, j| j % 4;
+    let regular =
+        |name, rule, sides| by_rules(name, Kind::Regular, rule, rule, Defect::Nowhere, sides);
     random.chain([
-        by_rules(
-            "constant",
-            Kind::Regular,
-            constant,
-            constant,
-            Defect::Nowhere,
-            (1, 1),
-        ),
-        by_rules(
-            "constant",
-            Kind::Regular,
-            constant,
-            constant,
-            Defect::Nowhere,
-            (2, 1),
-        ),
-        by_rules(
-            "stripes of 4 symbols",
-            Kind::Regular,
-            stripes,
-            stripes,
-            Defect::Nowhere,
-            (16, 1),
-        ),
+        regular("constant", constant, (1, 1)),
+        regular("constant", constant, (2, 1)),
+        regular("stripes of 4 symbols", stripes, (16, 1)),
     ])
+}
+
+/// Patterns of one row: the windows of a strip have no cell in common.
+fn flat() -> impl Iterator<Item = Class> {
+    let sides = [(1, 2), (1, 4), (1, 16), (1, 64)];
+    let random = [2, 3]
+        .into_iter()
+        .flat_map(move |symbols| sides.map(|sides| random_apart(symbols, sides)));
+    let constant: Rule = |_, _| 0;
+    let stripes: Rule = |_, j| j % 4;
+    let regular = |name, rule: Rule| {
+        sides.map(|sides| by_rules(name, Kind::Regular, rule, rule, Defect::Nowhere, sides))
+    };
+    random
+        .chain(regular("constant", constant))
+        .chain(regular("stripes of 4 symbols", stripes))
 }
