@@ -13,8 +13,7 @@ ghost use Rattle.flags.specs.Flags.Strips.{flagOf, Ready};
 ghost use Rattle.flags.specs.Flags.Links.{RestKept};
 ghost use Rattle.flags.specs.Flags.Windows.{Own, StripFlagged};
 ghost use Rattle.sieve.specs.Pairs.{AlikePairs};
-use crate::lone::lone_flag;
-use crate::lone::lone_flags;
+use crate::lone::flag_lone;
 use crate::one_row::row_flags;
 use crate::run::next_flag;
 use grid::counts::distinct_counts;
@@ -74,8 +73,108 @@ fn flag_strip(
     }
 }
 
-// The flags of the windows at column left. Where more than one of them may match, the links buffer holds the strip's
-// links meanwhile; where one may and no more, it is compared by itself.
+// The flags of the windows at column left, by the strip's links, which the links buffer holds meanwhile.
+fn flag_linked(
+    text: &[u8],
+    pattern: &[u8],
+    first: &[usize; 256],
+    selves: &[usize; 256],
+    symbols: u16,
+    s: Shape,
+    left: usize,
+    counts: &[u16],
+    links: &mut [u16],
+    flags: &mut [u8],
+)
+    requires { ⌜
+        Ready (now text) (now pattern) symbols s (now counts) (length (now links)) (length (now flags))
+        × (left < across s) × Own (now pattern) (s .width) (down s) (now first) (now selves) ⌝ }
+    ensures { λ r. ⌜
+        now (flags .exit) ≡ stored (flagOf (now (text .entry)) (now (pattern .entry)) s)
+        (λ top. top * across s + left) (down s) (now (flags .entry)) ⌝ }
+    ensures { λ r. ⌜ RestKept (s .rows * s .width) (now (links .entry)) (now (links .exit)) ⌝ }
+{
+    strip_links(text, s.rows, s.columns, s.width, left, links);
+    flag_strip(
+        pattern,
+        first,
+        selves,
+        symbols,
+        s,
+        left,
+        counts,
+        links,
+        flags,
+    );
+}
+
+// The flags of the windows at column left. Where one of them may match and no more, it is compared by itself, and no
+// links are made for its sake.
+fn flag_wanted(
+    text: &[u8],
+    pattern: &[u8],
+    first: &[usize; 256],
+    selves: &[usize; 256],
+    earlier: &[usize; 8],
+    later: &[usize; 8],
+    symbols: u16,
+    s: Shape,
+    left: usize,
+    counts: &[u16],
+    links: &mut [u16],
+    flags: &mut [u8],
+)
+    requires { ⌜
+        Ready (now text) (now pattern) symbols s (now counts) (length (now links)) (length (now flags))
+        × (left < across s) × Own (now pattern) (s .width) (down s) (now first) (now selves)
+        × AlikePairs (now pattern) (s .columns) (s .width) (now earlier) (now later) ⌝ }
+    ensures { λ r. ⌜
+        now (flags .exit) ≡ stored (flagOf (now (text .entry)) (now (pattern .entry)) s)
+        (λ top. top * across s + left) (down s) (now (flags .entry)) ⌝ }
+    ensures { λ r. ⌜ RestKept (s .rows * s .width) (now (links .entry)) (now (links .exit)) ⌝ }
+{
+    let top = first_wanted(
+        text,
+        pattern,
+        first,
+        earlier,
+        later,
+        symbols,
+        s,
+        left,
+        counts,
+    );
+    let bottom = last_wanted(
+        text,
+        pattern,
+        first,
+        earlier,
+        later,
+        symbols,
+        s,
+        left,
+        counts,
+        top,
+    );
+    if bottom <= top {
+        flag_lone(text, pattern, first, s, left, top, flags);
+        return;
+    }
+    flag_linked(
+        text,
+        pattern,
+        first,
+        selves,
+        symbols,
+        s,
+        left,
+        counts,
+        links,
+        flags,
+    );
+}
+
+// The flags of the windows at column left.
 fn flag_column(
     text: &[u8],
     pattern: &[u8],
@@ -114,40 +213,13 @@ fn flag_column(
         );
         return;
     }
-    let top = first_wanted(
+    flag_wanted(
         text,
-        pattern,
-        first,
-        earlier,
-        later,
-        symbols,
-        s,
-        left,
-        counts,
-    );
-    let bottom = last_wanted(
-        text,
-        pattern,
-        first,
-        earlier,
-        later,
-        symbols,
-        s,
-        left,
-        counts,
-        top,
-    );
-    if bottom <= top {
-        let mut last = no_positions();
-        let flag = lone_flag(text, pattern, first, s, left, top, &mut last);
-        lone_flags(s, left, top, flag, flags);
-        return;
-    }
-    strip_links(text, s.rows, s.columns, s.width, left, links);
-    flag_strip(
         pattern,
         first,
         selves,
+        earlier,
+        later,
         symbols,
         s,
         left,

@@ -8,9 +8,11 @@ ghost use Rattle.theory.specs.Older.{Older};
 ghost use Rattle.theory.specs.Store.{stored};
 ghost use Rattle.shapes.specs.Shapes.{ShapeOf, across, down};
 ghost use Rattle.flags.specs.Flags.Strips.{flagOf};
+ghost use Rattle.flags.specs.Flags.Lone.{LoneWritten};
 ghost use Rattle.sieve.specs.Sieve.{StripAsked};
 use crate::run::flag_by;
 use grid::strips::Strip;
+use reach::places::no_positions;
 use reach::reach::reach;
 use shapes::shapes::Shape;
 
@@ -57,7 +59,7 @@ fn flag_at(k: usize, lone: usize, flag: u8) -> u8
 }
 
 // The flags of the windows at column left: that of the window at row top is given, those of the others are 0.
-pub fn lone_flags(s: Shape, left: usize, top: usize, flag: u8, flags: &mut [u8])
+fn lone_flags(s: Shape, left: usize, top: usize, flag: u8, flags: &mut [u8])
     requires { ⌜
         ShapeOf s (s .rows * s .columns) × (left < across s) × (top ≤ down s)
         × (down s * across s ≤ length (now flags)) ⌝ }
@@ -74,4 +76,25 @@ pub fn lone_flags(s: Shape, left: usize, top: usize, flag: u8, flags: &mut [u8])
         flags[k] = flag_at(k, lone, flag);
         i += 1;
     }
+}
+
+// The flags of the windows at column left, of which the one at row top may match and no other.
+pub fn flag_lone(
+    text: &[u8],
+    pattern: &[u8],
+    first: &[usize; 256],
+    s: Shape,
+    left: usize,
+    top: usize,
+    flags: &mut [u8],
+)
+    requires { ⌜
+        StripAsked (now text) (now pattern) (now first) s left × (top ≤ down s)
+        × (down s * across s ≤ length (now flags)) ⌝ }
+    ensures { λ r. ⌜
+        LoneWritten (now (text .entry)) (now (pattern .entry)) s left top (now (flags .entry)) (now (flags .exit)) ⌝ }
+{
+    let mut last = no_positions();
+    let flag = lone_flag(text, pattern, first, s, left, top, &mut last);
+    lone_flags(s, left, top, flag, flags);
 }

@@ -30,6 +30,13 @@ use Rattle.flags.specs.Flags.Strips.{flagOf, CountsAre, end-flag-here, e
 use Rattle.flags.specs.Flags.Run.{flagByEnd}
 use Rattle.flags.specs.Flags.Run.Laws.{by-end, by-count}
 
+-- the flags of a strip's windows are written: that of the window at row top, if there is one, and 0 for the others
+pub record LoneWritten (text pattern : List ℕ) (s : Shape) (left top : ℕ) (old new : List ℕ) : Type 0 where
+  pub flag : ℕ
+  pub right : top < down s → flag ≡ flagOf text pattern s (top * across s + left)
+  pub written : new
+      ≡ stored (λ k. pick (eqb k (top * across s + left)) flag 0) (λ i. i * across s + left) (down s) old
+
 -- last places that lie before a window lie before its end
 pub older-past : (top height width : ℕ) (l : List ℕ) → Older (top * width + 1) l → Older ((top + height) * width + 1) l
 older-past top height width l o =
@@ -76,15 +83,15 @@ module _ (text pattern : List ℕ) (symbols : ℕ) (s : Shape) (left : ℕ) (cou
       go (fails n) = sym (by-count pattern symbols count w n)
 
   -- all windows but the one at row top
-  module _ (top bottom flag : ℕ) (above : RowsTo text pattern s left symbols counts top)
-      (below : RowsFrom text pattern s left symbols counts (bottom + 1)) (near : bottom ≤ top)
-      (lone : top < down s → flag ≡ flagOf text pattern s (top * across s + left)) where
+  module _ (top bottom : ℕ) (above : RowsTo text pattern s left symbols counts top)
+      (below : RowsFrom text pattern s left symbols counts (bottom + 1)) (near : bottom ≤ top) (flags after : List ℕ)
+      (lone : LoneWritten text pattern s left top flags after) where
     -- places of windows in one strip tell their rows
     row-of : (i : ℕ) → i * across s + left ≡ top * across s + left → i ≡ top
     row-of i e = sym (corner-row (across s) i left strip) ∙ rw e (corner-row (across s) top left strip)
 
     flag-here : (i : ℕ) → i < down s
-        → pick (eqb (i * across s + left) (top * across s + left)) flag 0
+        → pick (eqb (i * across s + left) (top * across s + left)) (lone .flag) 0
         ≡ flagOf text pattern s (i * across s + left)
     flag-here i h = go (eq-tested (i * across s + left) (top * across s + left))
       where
@@ -96,11 +103,9 @@ module _ (text pattern : List ℕ) (symbols : ℕ) (s : Shape) (left : ℕ) (cou
             side (fails l) = none-here i h (below .differ i (omega arith) h)
 
         go : {b : Bool} → Tested (i * across s + left ≡ top * across s + left) b
-            → pick b flag 0 ≡ flagOf text pattern s (i * across s + left)
-        go (holds e) = let d = row-of i e in rw e (lone (rw d at h))
+            → pick b (lone .flag) 0 ≡ flagOf text pattern s (i * across s + left)
+        go (holds e) = let d = row-of i e in rw e (lone .right (rw d at h))
         go (fails n) = other (λ e. n (rw e))
 
-    pub strip-lone : (flags after : List ℕ)
-        → after ≡ stored (λ k. pick (eqb k (top * across s + left)) flag 0) (λ i. i * across s + left) (down s) flags
-        → after ≡ stored (flagOf text pattern s) (λ i. i * across s + left) (down s) flags
-    strip-lone flags after e = e ∙ stored-ext _ _ _ (down s) flags flag-here
+    pub strip-lone : after ≡ stored (flagOf text pattern s) (λ i. i * across s + left) (down s) flags
+    strip-lone = lone .written ∙ stored-ext _ _ _ (down s) flags flag-here
