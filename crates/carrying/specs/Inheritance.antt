@@ -50,6 +50,6 @@ pub record Above (text pattern : List ℕ) (columns height width : ℕ) (selves 
   pub owned : Owned pattern height width selves
 
 -- what the tables say that are lent from window to window: those of the windows above, and the offsets
-pub record Lent (text pattern : List ℕ) (columns height width : ℕ) (offsets selves tops : List ℕ) : Type 0 where
+pub record CheckTables (text pattern : List ℕ) (columns height width : ℕ) (offsets selves tops : List ℕ) : Type 0 where
   pub above : Above text pattern columns height width selves tops
   pub prepared : Prepared pattern columns width offsets

@@ -9,7 +9,7 @@ ghost use Rattle.grid.specs.Distinct.{contains};
 ghost use Rattle.sets.specs.Symbols.{symbolsOf};
 ghost use Rattle.matching.specs.Compare.{patternAt, windowOf, cellCount, Placed};
 ghost use Rattle.claims.specs.Claims.{hasImage, pairsFrom};
-ghost use Rattle.carrying.specs.Inheritance.{Lent};
+ghost use Rattle.carrying.specs.Inheritance.{CheckTables};
 ghost use Rattle.carrying.specs.Offsets.{ImagesInside};
 ghost use Rattle.claims.specs.Pairs.{FoundWindow, Marked, PairRead};
 ghost use Rattle.claims.specs.Pairs.Plain.{PlainPair, PlainTo};
@@ -265,13 +265,13 @@ pub fn found_pairs(
     requires { ⌜
         Placed (now text) v × (length (now pattern) ≡ cellCount v) × (now symbols ≡ symbolsOf (now pattern))
         × Older base (now given)
-        × Lent (now text) (now pattern) (v .columns) (v .height) (v .width) (now offsets) (now selves) (now tops) ⌝ }
+        × CheckTables (now text) (now pattern) (v .columns) (v .height) (v .width) (now offsets) (now selves) (now tops) ⌝ }
     ensures { λ r. ⌜
         r ≡ pairsFrom (patternAt (now (pattern .entry))) (windowOf (now (text .entry)) v) (cellCount v)
         (now (listing .entry)) (symbolsOf (now (pattern .entry))) [] at ⌝ }
     ensures { λ r. ⌜ Older (base + 256) (now (given .exit)) ⌝ }
     ensures { λ r. ⌜
-        Lent (now (text .entry)) (now (pattern .entry)) (v .columns) (v .height) (v .width) (now (offsets .exit))
+        CheckTables (now (text .entry)) (now (pattern .entry)) (v .columns) (v .height) (v .width) (now (offsets .exit))
         (now (selves .exit)) (now (tops .exit)) ⌝ }
 {
     let columns = v.columns;

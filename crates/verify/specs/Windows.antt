@@ -22,7 +22,7 @@ use Rattle.matching.specs.Windows.{windowPlace}
 use Rattle.matching.specs.Windows.Laws.{placed-window}
 use Rattle.shapes.specs.declared.windows.WindowPlace.{WindowPlace}
 use Rattle.sweep.specs.Sweep.{SidesOf}
-use Rattle.carrying.specs.Inheritance.{Lent}
+use Rattle.carrying.specs.Inheritance.{CheckTables}
 use Rattle.carrying.specs.Offsets.Laws.{prepared-none}
 use Rattle.claims.specs.declared.walks.Walk.{Walk}
 use Rattle.claims.specs.declared.walks.Walk.the-variants.{Goes, Stops}
@@ -101,11 +101,11 @@ window-asks text pattern s shape size k h v e =
 -- ---- what is kept from window to window
 
 -- before the first window nothing is
-pub lent-none : (text pattern : List ℕ) (columns height width : ℕ) (offsets selves tops : List ℕ)
+pub tables-none : (text pattern : List ℕ) (columns height width : ℕ) (offsets selves tops : List ℕ)
     → SidesOf pattern height width → columns ≤ 255 → offsets ≡ replicate 257 0 → selves ≡ replicate 256 0
     → tops ≡ replicate 256 0
-    → Lent text pattern columns height width offsets selves tops
-lent-none text pattern columns height width offsets selves tops sides narrow f s t =
+    → CheckTables text pattern columns height width offsets selves tops
+tables-none text pattern columns height width offsets selves tops sides narrow f s t =
     record {
       above = record {
         sides = sides;
@@ -125,13 +125,13 @@ lent-none text pattern columns height width offsets selves tops sides narrow f s
 module _ (text pattern : List ℕ) (columns height width k : ℕ) (v : WindowPlace) (offsets selves tops : List ℕ)
     (e : v ≡ windowPlace columns height width k) where
   -- what is known of the text is known to window k
-  pub lent-window : Lent text pattern columns height width offsets selves tops
-      → Lent text pattern (v .columns) (v .height) (v .width) offsets selves tops
-  lent-window a =
-      subst (λ (u : WindowPlace). Lent text pattern (u .columns) (u .height) (u .width) offsets selves tops) (sym e) a
+  pub tables-window : CheckTables text pattern columns height width offsets selves tops
+      → CheckTables text pattern (v .columns) (v .height) (v .width) offsets selves tops
+  tables-window a =
+      subst (λ (u : WindowPlace). CheckTables text pattern (u .columns) (u .height) (u .width) offsets selves tops) (sym e) a
 
   -- and the other way round
-  pub lent-place : Lent text pattern (v .columns) (v .height) (v .width) offsets selves tops
-      → Lent text pattern columns height width offsets selves tops
-  lent-place a =
-      subst (λ (u : WindowPlace). Lent text pattern (u .columns) (u .height) (u .width) offsets selves tops) e a
+  pub tables-place : CheckTables text pattern (v .columns) (v .height) (v .width) offsets selves tops
+      → CheckTables text pattern columns height width offsets selves tops
+  tables-place a =
+      subst (λ (u : WindowPlace). CheckTables text pattern (u .columns) (u .height) (u .width) offsets selves tops) e a

@@ -12,7 +12,7 @@ ghost use Rattle.claims.specs.Claims.{orStop};
 ghost use Rattle.claims.specs.declared.walks.Walk.the-variants.{Goes};
 ghost use Rattle.verify.specs.Check.{rightMismatch, entryFrom};
 ghost use Rattle.claims.specs.Walks.{MismatchAt};
-ghost use Rattle.carrying.specs.Inheritance.{Lent};
+ghost use Rattle.carrying.specs.Inheritance.{CheckTables};
 use claims::mismatches::true_mismatch;
 use claims::pairs::found_pairs;
 use claims::walks::Walk;
@@ -72,11 +72,11 @@ pub fn read_entry(
     requires { ⌜
         Placed (now text) v × (length (now pattern) ≡ cellCount v) × (now symbols ≡ symbolsOf (now pattern))
         × Older base (now given)
-        × Lent (now text) (now pattern) (v .columns) (v .height) (v .width) (now offsets) (now selves) (now tops) ⌝ }
+        × CheckTables (now text) (now pattern) (v .columns) (v .height) (v .width) (now offsets) (now selves) (now tops) ⌝ }
     ensures { λ r. ⌜ r ≡ entryFrom (now (text .entry)) (now (pattern .entry)) v (now (listing .entry)) at ⌝ }
     ensures { λ r. ⌜ Older (base + 256) (now (given .exit)) ⌝ }
     ensures { λ r. ⌜
-        Lent (now (text .entry)) (now (pattern .entry)) (v .columns) (v .height) (v .width) (now (offsets .exit))
+        CheckTables (now (text .entry)) (now (pattern .entry)) (v .columns) (v .height) (v .width) (now (offsets .exit))
         (now (selves .exit)) (now (tops .exit)) ⌝ }
 {
     let cursor = Cursor { at };

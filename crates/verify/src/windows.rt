@@ -8,7 +8,7 @@ ghost use Rattle.theory.specs.Test.{pick};
 ghost use Rattle.shapes.specs.Shapes.{ShapeOf};
 ghost use Rattle.shapes.specs.Questions.{asked};
 ghost use Rattle.sets.specs.Symbols.{symbolsOf};
-ghost use Rattle.carrying.specs.Inheritance.{Lent};
+ghost use Rattle.carrying.specs.Inheritance.{CheckTables};
 ghost use Rattle.verify.specs.Windows.{WindowsWalked};
 use crate::entries::read_entry;
 use carrying::offsets::unmade_offsets;
@@ -55,7 +55,7 @@ fn walk_windows(
     requires { ⌜
         ShapeOf s (length (now text)) × (length (now pattern) ≡ s .height * s .width)
         × (now symbols ≡ symbolsOf (now pattern)) × Older 256 (now given)
-        × Lent (now text) (now pattern) (s .columns) (s .height) (s .width) (now offsets) (now selves) (now tops) ⌝ }
+        × CheckTables (now text) (now pattern) (s .columns) (s .height) (s .width) (now offsets) (now selves) (now tops) ⌝ }
     ensures { λ r. ⌜ WindowsWalked (asked (now (text .entry)) (now (pattern .entry)) s) (now (listing .entry)) r ⌝ }
 {
     let across = s.columns + 1 - s.width;

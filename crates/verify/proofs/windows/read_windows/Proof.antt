@@ -8,7 +8,7 @@ use borrow.Author.Needs.{needs}
 use Rattle.theory.specs.Older.Laws.{older-zeros, zeros-long}
 use Rattle.sets.specs.Symbols.Listed.{listed-take, listed-inside}
 use Rattle.sets.specs.Symbols.Patterns.{members-symbol-set}
-use Rattle.verify.specs.Windows.{lent-none}
+use Rattle.verify.specs.Windows.{tables-none}
 use Rattle.verify.proofs.windows.read_windows.Statement.{statement}
 use Rattle.verify.proofs.windows.read_windows.Tie as tie
 
@@ -53,7 +53,7 @@ walk-windows-requires c κs =
       listed-take _ _ _ _ (d .list-symbols .ensures .0) (d .list-symbols .ensures .1)
           ∙ members-symbol-set _ _ (d .before .before .before .symbols-of .ensures),
       older-zeros _ _ (omega arith) (positions .before .before .before .no-entries .ensures),
-      lent-none _ _ _ _ _ _ _ _
+      tables-none _ _ _ _ _ _ _ _
           (record {
             cells = o .pre .1;
             tall = sides .height-good .positive;

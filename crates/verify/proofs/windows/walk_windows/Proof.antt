@@ -14,12 +14,12 @@ use Rattle.grid.specs.Counts.Laws.{windows-small}
 use Rattle.matching.specs.Windows.{windowPlace}
 use Rattle.matching.specs.Windows.Laws.{window-first, window-next, step-asks}
 use Rattle.shapes.specs.Questions.{ask, asked}
-use Rattle.carrying.specs.Inheritance.{Lent}
+use Rattle.carrying.specs.Inheritance.{CheckTables}
 use Rattle.claims.specs.declared.walks.Walk.the-variants.{Goes, Stops}
 use Rattle.verify.specs.Check.{entryFrom, windowsTo, foundTo}
 use Rattle.verify.specs.Entries.{goes-inside}
 use Rattle.verify.specs.Windows.{windows-none, found-none, windows-step, windows-stopped, found-step, found-le}
-use Rattle.verify.specs.Windows.{window-asks, lent-window, lent-place}
+use Rattle.verify.specs.Windows.{window-asks, tables-window, tables-place}
 use Rattle.verify.proofs.windows.walk_windows.Statement.{statement}
 use Rattle.verify.proofs.windows.walk_windows.Tie as tie
 
@@ -29,7 +29,7 @@ Inv-loop text pattern symbols given₀ offsets₀ selves₀ tops₀ listing acro
     (k ≤ n) × (v ≡ windowPlace (v₀ .columns) (v₀ .height) (v₀ .width) k) × (base ≡ 256 + k * 256) × Older base given
     × ((rows : ℕ) → windowsTo (ask text rows (v₀ .columns) pattern (v₀ .height) (v₀ .width)) listing k ≡ Goes at)
     × ((rows : ℕ) → found ≡ foundTo (ask text rows (v₀ .columns) pattern (v₀ .height) (v₀ .width)) listing k)
-    × Lent text pattern (v₀ .columns) (v₀ .height) (v₀ .width) offsets selves tops
+    × CheckTables text pattern (v₀ .columns) (v₀ .height) (v₀ .width) offsets selves tops
 
 abbrev μ-loop : tie.MeasureT-loop
 μ-loop text pattern symbols given₀ offsets₀ selves₀ tops₀ listing across n v₀ base₀ at₀ found₀ k₀ given offsets selves tops v base at found k = n - k
@@ -75,7 +75,7 @@ read-entry-requires c κs =
       w .1,
       o .pre .2,
       i .inv .3,
-      lent-window _ _ _ _ _ (i .k) (i .v) _ _ _ (i .inv .1) (i .inv .6),
+      tables-window _ _ _ _ _ (i .k) (i .v) _ _ _ (i .inv .1) (i .inv .6),
     )
 
 enum-known-step : tie.Need-enum-known-step Inv-loop μ-loop
@@ -161,7 +161,7 @@ loop-again c =
       (λ rows. windows-step (ask (now (a .text)) rows (a .s .columns) (now (a .pattern)) (a .s .height) (a .s .width)) (now (a .listing)) (i .k) (i .at) (i .v) (i .inv .4 rows) (i .inv .1) _ g),
       (λ rows. found-step (ask (now (a .text)) rows (a .s .columns) (now (a .pattern)) (a .s .height) (a .s .width)) (now (a .listing)) (i .k) (i .at) (i .v) (i .inv .4 rows) (i .inv .1) (i .found) _ _ g
           (i .inv .5 rows) (c .before .count-found .ensures)),
-      lent-place _ _ _ _ _ (i .k) (i .v) _ _ _ (i .inv .1) (e .1 .1),
+      tables-place _ _ _ _ _ (i .k) (i .v) _ _ _ (i .inv .1) (e .1 .1),
     )
 
 returns-2 : tie.Need-returns-2 Inv-loop μ-loop
