@@ -38,10 +38,6 @@ rowCells text rowWidth row column width = take width (drop (row * rowWidth + col
 pub stripAt : List ℕ → ℕ → ℕ → ℕ → ℕ → ℕ
 stripAt text rowWidth column width = windowAt text rowWidth 0 column width
 
--- how far behind a window's corner its position p lies in a text of that many columns: the same for every window
-abbrev pub offsetOf : ℕ → ℕ → ℕ → ℕ
-offsetOf columns width p = p / width * columns + p % width
-
 -- a read as a number: 256 past the end
 abbrev pub cellNumber : Cell → ℕ
 cellNumber (Symbol v) = v
@@ -54,3 +50,9 @@ cornerRow across k = k / across
 -- the column of window k's corner
 abbrev pub cornerColumn : ℕ → ℕ → ℕ
 cornerColumn across k = k % across
+
+-- What the inner functions' contracts cite.
+
+-- how far behind a window's corner its position p lies in a text of that many columns: the same for every window
+abbrev pub offsetOf : ℕ → ℕ → ℕ → ℕ
+offsetOf columns width p = p / width * columns + p % width
