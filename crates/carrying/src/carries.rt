@@ -5,12 +5,12 @@ ghost use mathlib.Core.Bool.{true};
 ghost use Prim.Native.Nat.{_+_, _*_, _≤_, _<_};
 ghost use lib.ListN.{length};
 ghost use Rattle.matching.specs.Compare.{patternAt, windowOf, cellCount, Placed};
-ghost use Rattle.carrying.specs.Carries.{RowCarried, RowsCarried};
-ghost use Rattle.carrying.specs.Inheritance.{Follows, Above};
-ghost use Rattle.carrying.specs.Offsets.{cornerOf, Offsets, ImagesInside};
-use crate::inherit::inherited_rows;
-use crate::offsets::image_of;
-use shapes::windows::WindowPlace;
+ghost use Rattle.inheriting.specs.Carries.{RowCarried, RowsCarried};
+ghost use Rattle.inheriting.specs.Inheritance.{Follows, Above};
+ghost use Rattle.inheriting.specs.Offsets.{cornerOf, Offsets, ImagesInside};
+use cells::windows::WindowPlace;
+use inheriting::inherit::inherited_rows;
+use inheriting::offsets::image_behind;
 
 // One row: cells is the pattern's row, row the window's. Two cells a round, so that they share what the loop itself
 // costs; a row of odd length has one left over.
@@ -24,16 +24,16 @@ fn row_carries(text: &[u8], corner: usize, offsets: &[usize; 257], row: &[u8], c
     let n = row.len();
     let mut j = 0;
     while j + 1 < n {
-        if image_of(text, corner, offsets, cells[j]) != row[j] {
+        if image_behind(text, corner, offsets, cells[j]) != row[j] {
             return false;
         }
-        if image_of(text, corner, offsets, cells[j + 1]) != row[j + 1] {
+        if image_behind(text, corner, offsets, cells[j + 1]) != row[j + 1] {
             return false;
         }
         j += 2;
     }
     if j < n {
-        return image_of(text, corner, offsets, cells[j]) == row[j];
+        return image_behind(text, corner, offsets, cells[j]) == row[j];
     }
     true
 }

@@ -1,6 +1,6 @@
 -- Document 01's check of a listing, as far as one record claims something of its window: where the check stands, when a
 -- record stands at a place, and what a pair and a mismatch have to say. The walk over all windows is `Check` of the
--- crate verify.
+-- crate rules.
 -- Assumes nothing.
 pub mod Standing
 use mathlib.Core.Bool.{Bool, true, false, not}
@@ -10,10 +10,10 @@ use lib.Dec.{eqb, ltb}
 use lib.ListN.{getD}
 use Rattle.theory.specs.Test.{pick, both}
 use Rattle.theory.specs.First.{every}
-use Rattle.grid.specs.Distinct.{contains}
-use Rattle.shapes.specs.declared.refusals.Refusal.{Refusal}
-use Rattle.shapes.specs.declared.refusals.Refusal.the-variants.{ListingForm, ListingFalse}
-use Rattle.listing.specs.Reader.{wholeAt}
+use Rattle.occurrences.specs.Distinct.{contains}
+use Rattle.refusals.specs.declared.refusals.Refusal.{Refusal}
+use Rattle.refusals.specs.declared.refusals.Refusal.the-variants.{ListingForm, ListingFalse}
+use Rattle.reading.specs.Reader.{wholeAt}
 use Rattle.claims.specs.declared.walks.Walk.{Walk}
 use Rattle.claims.specs.declared.walks.Walk.the-variants.{Goes, Stops}
 

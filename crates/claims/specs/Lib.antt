@@ -1,4 +1,3 @@
 pub mod Claims
 pub mod Walks
-pub mod Pairs
 pub mod Mismatches

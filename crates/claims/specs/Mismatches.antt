@@ -13,7 +13,7 @@ use borrow.Author.Tests.{lt-ltb, le-ltb}
 use Rattle.theory.specs.Test.{both}
 use Rattle.theory.specs.Test.Laws.{lt-tested, both-tested, says-true}
 use Rattle.matching.specs.Compare.{cellCount, Placed}
-use Rattle.shapes.specs.declared.windows.WindowPlace.{WindowPlace}
+use Rattle.cells.specs.declared.windows.WindowPlace.{WindowPlace}
 use Rattle.claims.specs.Claims.{cellInside, alikeOnly, trueMismatch}
 
 -- ---- the places of a cell

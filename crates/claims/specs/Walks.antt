@@ -5,9 +5,9 @@ use mathlib.Core.Bool.{Bool, true, false}
 use mathlib.Core.List.{List}
 use Prim.Native.Nat.{ℕ}
 use Rattle.theory.specs.Test.Laws.{true-false}
-use Rattle.shapes.specs.declared.refusals.Refusal.{Refusal}
+use Rattle.refusals.specs.declared.refusals.Refusal.{Refusal}
 use Rattle.listing.specs.Records.{mismatchBytes}
-use Rattle.listing.specs.Reader.{bytesFrom}
+use Rattle.reading.specs.Reader.{bytesFrom}
 use Rattle.listing.specs.declared.records.MismatchBody.{MismatchBody}
 use Rattle.claims.specs.declared.walks.Walk.{Walk}
 use Rattle.claims.specs.declared.walks.Walk.the-variants.{Goes, Stops}

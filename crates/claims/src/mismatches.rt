@@ -4,8 +4,8 @@ ghost use Prim.Native.Nat.{_*_, _+_, _<_};
 ghost use lib.ListN.{length};
 ghost use Rattle.matching.specs.Compare.{patternAt, windowOf, cellCount, Placed};
 ghost use Rattle.claims.specs.Claims.{alikeOnly, cellInside, trueMismatch};
+use cells::windows::WindowPlace;
 use listing::records::Place;
-use shapes::windows::WindowPlace;
 
 // A cell of the pattern.
 fn cell_inside(v: WindowPlace, cell: Place) -> bool

@@ -1,5 +1,5 @@
 // The check of a listing is a walk through its bytes, record by record.
-use shapes::refusals::Refusal;
+use refusals::refusals::Refusal;
 
 // Where a walk stands, or where it stopped.
 pub enum Walk {

@@ -1,14 +1,12 @@
 // Document 01's program. Its work is `answer`, from the input's bytes to the output's; here they are read and written.
-mod program;
-
 ghost use mathlib.Core.Path.{_≡_};
 ghost use mathlib.Core.List.{List};
 ghost use Prim.Native.Nat.{ℕ};
 ghost use lib.ListN.{length, take};
-ghost use Rattle.colourway.specs.Program.{outputOf};
+ghost use Rattle.program.specs.Program.{outputOf};
 use libc::STDIN_FILENO;
 use libc::STDOUT_FILENO;
-use program::answer;
+use program::program::answer;
 
 // A byte more than the longest input that can be right, which has 4 sizes and twice 16,384 cells. Of a longer input no
 // more need be read: what stands behind does not change what is printed.

@@ -3,7 +3,7 @@
 mod output;
 mod running;
 
-use grid::counts::distinct_counts;
+use counts::counts::distinct_counts;
 use grid::strips::strip_links;
 use output::print;
 use output::print_line;
@@ -110,7 +110,7 @@ fn long_sides() {
 }
 
 // A pattern as large as the text has one window.
-fn one_window() {
+fn whole_text() {
     print(b"motif as large as the sheet, 1 1 2 / 2 1 1\n");
     run(&first_text(), 2, 3, &[1, 1, 2, 2, 1, 1], 2, 3);
 }
@@ -230,7 +230,7 @@ fn main() {
     longest_sides();
     empty_sides();
     long_sides();
-    one_window();
+    whole_text();
     kept_listings();
     refused_listings();
     unequal_counts();

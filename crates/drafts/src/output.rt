@@ -6,8 +6,8 @@ ghost use Rattle.printing.specs.Lines.{Recorded};
 use libc::STDOUT_FILENO;
 use printing::lines::write_lines;
 use printing::lines::write_refusal;
-use shapes::refusals::Refusal;
-use shapes::refusals::refusal_number;
+use refusals::refusals::Refusal;
+use refusals::refusals::refusal_number;
 
 // Writes bytes as they are.
 pub fn print(bytes: &[u8]) {

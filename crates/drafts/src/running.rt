@@ -5,9 +5,9 @@ use crate::output::print_counts;
 use crate::output::print_listing;
 use crate::output::print_refusal;
 use crate::output::print_totals;
+use rules::checked::Checked;
 use search::search::Searched;
 use search::search::search;
-use verify::check::Checked;
 use verify::check::check;
 
 // Searches with the listing buffer that is lent, and prints the records of the listing and the totals, or the refusal.

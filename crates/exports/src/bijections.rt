@@ -2,7 +2,7 @@
 // An operation takes the columns and leaves its answer's there; refused, it leaves them as they were.
 ghost use mathlib.Core.Path.{_≡_};
 ghost use Rattle.mapping.specs.Bijections.{emptyBijection, pairOf, invertOf, composeOf};
-ghost use Rattle.shapes.specs.Said.{saidNumber};
+ghost use Rattle.refusals.specs.Said.{saidNumber};
 ghost use Rattle.values.specs.Bijections.{fromColumns};
 use values::bijections::bijection_in;
 use values::bijections::write_answer;
@@ -65,6 +65,6 @@ pub extern "C" fn colourway_bijection_compose(
         (fromColumns (now («other_forward» .entry)) (now («other_backward» .entry))) .bijection ⌝ }
 {
     let other = bijection_in(other_forward, other_backward);
-    let answer = mapping::bijections::compose(bijection_in(forward, backward), other);
+    let answer = composing::compose::compose(bijection_in(forward, backward), other);
     write_answer(answer, forward, backward)
 }

@@ -1,12 +1,12 @@
 // The check of a listing for Rust and C.
 ghost use mathlib.Core.Path.{_≡_};
 ghost use Rattle.theory.specs.Bytes.{Bytes};
-ghost use Rattle.shapes.specs.Said.{saidNumber};
+ghost use Rattle.refusals.specs.Said.{saidNumber};
 ghost use Rattle.shapes.specs.Questions.{ask};
-ghost use Rattle.verify.specs.Check.{checkOf};
-ghost use Rattle.values.specs.Returned.{valuesBy};
-use values::checking::checked_number;
-use values::checking::checked_totals;
+ghost use Rattle.rules.specs.Check.{checkOf};
+ghost use Rattle.returned.specs.Returned.{valuesBy};
+use returned::checking::checked_number;
+use returned::checking::checked_totals;
 use verify::check::check;
 
 // Checks a listing for a text and a pattern (document 01, 'Reading and checking'). Found and refused go to totals;

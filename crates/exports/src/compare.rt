@@ -1,11 +1,11 @@
 // The one-window question for Rust and C.
 ghost use mathlib.Core.Path.{_≡_};
-ghost use Rattle.shapes.specs.Said.{saidNumber};
+ghost use Rattle.refusals.specs.Said.{saidNumber};
 ghost use Rattle.shapes.specs.Questions.{ask};
 ghost use Rattle.matching.specs.Compare.{windowSaid};
 ghost use Rattle.values.specs.Bijections.{fromColumns};
 ghost use Rattle.values.specs.Compare.{windowMismatch, windowBijection};
-use matching::compare::one_window;
+use answering::one_window::one_window;
 use values::bijections::write_columns;
 use values::compare::verdict_number;
 use values::compare::verdict_values;

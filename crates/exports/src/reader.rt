@@ -1,12 +1,12 @@
 // The reader of a listing for Rust and C.
 ghost use mathlib.Core.Path.{_≡_};
-ghost use Rattle.shapes.specs.Said.{saidNumber};
-ghost use Rattle.listing.specs.Reader.{cursorSaid};
-ghost use Rattle.values.specs.Reader.{fieldsBy, nextBy};
-use listing::reader::Cursor;
-use values::reader::read_fields;
-use values::reader::read_number;
-use values::reader::read_place;
+ghost use Rattle.refusals.specs.Said.{saidNumber};
+ghost use Rattle.reading.specs.Reader.{cursorSaid};
+ghost use Rattle.fields.specs.Reader.{fieldsBy, nextBy};
+use fields::reader::read_fields;
+use fields::reader::read_number;
+use fields::reader::read_place;
+use reading::reader::Cursor;
 
 // The record at a place of a listing (document 01, 'Reading and checking'): its numbers go to fields, the place after
 // it to next. A refusal leaves fields as they are, and next is the place that it returns.

@@ -1,13 +1,13 @@
 // The search for Rust and C.
 ghost use mathlib.Core.Path.{_≡_};
 ghost use Rattle.theory.specs.Bytes.{Bytes};
-ghost use Rattle.shapes.specs.Said.{saidNumber};
+ghost use Rattle.refusals.specs.Said.{saidNumber};
 ghost use Rattle.shapes.specs.Questions.{ask};
 ghost use Rattle.search.specs.Search.{lend, searchOf};
-ghost use Rattle.values.specs.Returned.{valuesBy};
+ghost use Rattle.returned.specs.Returned.{valuesBy};
+use returned::searching::searched_number;
+use returned::searching::searched_totals;
 use search::search::search;
-use values::searching::searched_number;
-use values::searching::searched_totals;
 
 // Searches a text for a pattern (document 01, 'Search and listing'). Found, refused and the length go to totals;
 // refused by 11, the length needed goes to the last of them. Any other refusal changes nothing.

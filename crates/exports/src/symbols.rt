@@ -11,7 +11,7 @@ use values::symbols::words_of;
 pub extern "C" fn colourway_symbols(pattern: &[u8], words: &mut [u64; 4])
     ensures { λ r. ⌜ now (words .exit) ≡ wordsOf (symbolSet (now (pattern .entry))) ⌝ }
 {
-    *words = words_of(sets::symbols::symbols_of(pattern));
+    *words = words_of(marking::marks::symbol_set(pattern));
 }
 
 // How many symbols are in a set.

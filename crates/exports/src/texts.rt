@@ -1,12 +1,12 @@
 // Texts and their windows for Rust and C.
 ghost use mathlib.Core.Path.{_≡_};
-ghost use Rattle.shapes.specs.Said.{saidNumber};
+ghost use Rattle.refusals.specs.Said.{saidNumber};
 ghost use Rattle.shapes.specs.Questions.{fourSides};
 ghost use Rattle.grid.specs.Strips.{linksOf, stripFrom};
-ghost use Rattle.grid.specs.Counts.{countsOf};
-ghost use Rattle.shapes.specs.Windows.{cellOf, cellNumber};
-use shapes::refusals::outcome_number;
-use shapes::windows::Cell;
+ghost use Rattle.counts.specs.Counts.{countsOf};
+ghost use Rattle.cells.specs.Windows.{cellOf, cellNumber};
+use cells::windows::Cell;
+use refusals::refusals::outcome_number;
 
 // The links of the strip of that width whose first column is left (document 01, 'Strips and links').
 #[no_mangle]
@@ -45,7 +45,7 @@ pub extern "C" fn colourway_distinct_counts(
         now (counts .exit)
         ≡ countsOf (now (text .entry)) (fourSides rows columns height width) (now (counts .entry)) .buffer ⌝ }
 {
-    outcome_number(grid::counts::distinct_counts(text, rows, columns, height, width, counts))
+    outcome_number(counts::counts::distinct_counts(text, rows, columns, height, width, counts))
 }
 
 // The symbol in cell (i, j) of the window at corner (row, column), or 256 where the cell lies past the text's end.
@@ -60,7 +60,7 @@ pub extern "C" fn colourway_window_cell(
 ) -> u16
     ensures { λ r. ⌜ r ≡ cellNumber (cellOf (now (text .entry)) «row_width» row column i j) ⌝ }
 {
-    match shapes::windows::window_cell(text, row_width, row, column, i, j) {
+    match cells::windows::window_cell(text, row_width, row, column, i, j) {
         Cell::Symbol(v) => v as u16,
         Cell::PastEnd => 256,
     }

@@ -2,10 +2,6 @@
 -- distinct count and the links of its strip, and the two are the same (`flag-right`).
 -- Assumes nothing.
 pub mod Strips
-pub mod Links
-pub mod Steps
-pub mod Run
-pub mod Windows
 pub mod Lone
 pub mod Laws
 use mathlib.Core.Path.{_≡_}
@@ -18,9 +14,9 @@ use Rattle.theory.specs.Test.{pick, both}
 use Rattle.theory.specs.First.{every}
 use Rattle.theory.specs.Table.{table}
 use Rattle.theory.specs.Match.{isMatch}
-use Rattle.shapes.specs.Said.{overFront}
+use Rattle.refusals.specs.Said.{overFront}
 use Rattle.shapes.specs.Questions.{Question, windowsOf, linksNeeded, sidesOf}
-use Rattle.grid.specs.Counts.{windowCount}
+use Rattle.counts.specs.Counts.{windowCount}
 use Rattle.shapes.specs.Shapes.{ShapeOf, across, down}
 use Rattle.shapes.specs.declared.shapes.Shape.{Shape}
 use Rattle.matching.specs.Questions.{answerAt}
@@ -57,10 +53,10 @@ rooms links counts flags = record { links = links; counts = counts; flags = flag
 abbrev pub roomsOf : Work → Rooms
 roomsOf w = rooms (length (w .links)) (length (w .counts)) (length (w .flags))
 
--- what it leaves in them: the links that were used 0, the count and the flag of every window, and behind them what was
--- there
-unfoldable pub marked : Question → Work → Work
-marked q w =
+-- what it leaves in them: as many links 0 as a strip has positions, the count and the flag of every window, and behind
+-- them what was there
+unfoldable pub workAfter : Question → Work → Work
+workAfter q w =
     working (overFront (table (λ p. 0) (linksNeeded q)) (w .links))
     (overFront (table (countAt q) (windowsOf q)) (w .counts))
     (overFront (table (windowFlag q) (windowsOf q)) (w .flags))

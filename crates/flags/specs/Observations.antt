@@ -16,8 +16,8 @@ use Rattle.theory.specs.Table.{table}
 use Rattle.theory.specs.Table.Laws.{table-zero}
 use Rattle.theory.specs.Match.{Matches, imageOf}
 use Rattle.theory.specs.Match.Even.{Alike, Even, maps-even, even-maps}
-use Rattle.grid.specs.Distinct.{distinct}
-use Rattle.grid.specs.Distinct.Laws.{distinct-next-new, distinct-next-old}
+use Rattle.occurrences.specs.Distinct.{distinct}
+use Rattle.occurrences.specs.Distinct.Laws.{distinct-next-new, distinct-next-old}
 use Rattle.grid.specs.Strips.{link}
 use Rattle.grid.specs.Strips.Links.{link-back, Chain, there, chain-onward, chain}
 

@@ -1,5 +1,3 @@
-// The flag of every window, which the search begins with.
-pub mod flags;
-mod lone;
-mod one_row;
-pub mod run;
+// The flags of windows that need no links: a strip's lone window, and all windows of a pattern of one row.
+pub mod lone;
+pub mod one_row;

@@ -10,14 +10,14 @@ ghost use Rattle.shapes.specs.Shapes.{ShapeOf, across, down};
 ghost use Rattle.flags.specs.Flags.Strips.{flagOf};
 ghost use Rattle.flags.specs.Flags.Lone.{LoneWritten};
 ghost use Rattle.sieve.specs.Sieve.{StripAsked};
-use crate::run::flag_by;
 use grid::strips::Strip;
-use reach::places::no_positions;
+use linked::run::flag_by;
 use reach::reach::reach;
+use rows::places::no_positions;
 use shapes::shapes::Shape;
 
-// The flag of the window at row top, or 0 where there is no such window. The table of last places is lent: what earlier
-// windows left in it lies before this one.
+// The flag of the window at row top; where there is no such window what is answered counts for nothing. The table of
+// last places is lent: what earlier windows left in it lies before this one.
 pub fn lone_flag(
     text: &[u8],
     pattern: &[u8],

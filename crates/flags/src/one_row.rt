@@ -10,7 +10,7 @@ ghost use Rattle.shapes.specs.Shapes.{across, down};
 ghost use Rattle.sieve.specs.Sieve.{RowsAsked};
 ghost use Rattle.flags.specs.Flags.Strips.{flagOf, Ready};
 use crate::lone::lone_flag;
-use reach::places::no_positions;
+use rows::places::no_positions;
 use shapes::shapes::Shape;
 use sieve::wanted::pairs_pass;
 

@@ -1,5 +1,1 @@
 pub mod Strips
-pub mod Distinct
-pub mod Occurrences
-pub mod Counts
-pub mod Examples

@@ -14,11 +14,11 @@ use Rattle.theory.specs.Test.{pick}
 use Rattle.theory.specs.First.{first}
 use Rattle.theory.specs.Table.{table}
 use Rattle.theory.specs.Store.{stored}
-use Rattle.shapes.specs.Said.{Said, _then_, check, Filled, filledBy}
+use Rattle.refusals.specs.Said.{Said, _then_, check, Filled, filledBy}
 use Rattle.shapes.specs.Questions.{fourSides, textSaid}
 use Rattle.shapes.specs.Shapes.{cornerInside, Shaped}
 use Rattle.shapes.specs.declared.shapes.Shape.{Shape}
-use Rattle.shapes.specs.Windows.{stripAt}
+use Rattle.cells.specs.Windows.{stripAt}
 use Rattle.grid.specs.declared.strips.Strip.{Strip}
 
 -- the least d with 1 ≤ d ≤ p and s (p − d) = s p, or 0 where there is none

@@ -5,17 +5,17 @@ ghost use lib.Dec.{eqb};
 ghost use lib.ListN.{length};
 ghost use Rattle.theory.specs.Test.{pick};
 ghost use Rattle.theory.specs.Store.{storedRows};
-ghost use Rattle.shapes.specs.Said.{outcomeSaid, filled};
+ghost use Rattle.refusals.specs.Said.{outcomeSaid, filled};
 ghost use Rattle.grid.specs.Strips.{link, linksSaid, linksOf, stripFrom, stripSymbols, StripOf, LastPlaces};
 ghost use Rattle.grid.specs.Strips.{RowFrom, Linkable, LinkedRow};
-use shapes::refusals::Outcome;
-use shapes::refusals::Reason;
-use shapes::refusals::Refusal;
+use cells::windows::row_cells;
+use refusals::refusals::Outcome;
+use refusals::refusals::Reason;
+use refusals::refusals::Refusal;
 use shapes::shapes::Shape;
 use shapes::shapes::corner_inside;
 use shapes::shapes::text_outcome;
 use shapes::tables::no_places;
-use shapes::windows::row_cells;
 
 // All rows of the columns from left on, as many as the strip is wide.
 pub struct Strip {

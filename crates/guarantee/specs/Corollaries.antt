@@ -2,7 +2,7 @@
 -- wrongly, a found window has its renaming, the two cells of a refused window lie in the pattern and are alike on one
 -- side only, the listing has the bytes that document 01 counts and reading it gives its records, and any two listings
 -- for a text and a pattern have the same counts. Each needs the demand alone; that the cells lie in the pattern needs
--- besides that the pattern has a column.
+-- besides that the pattern has a column, and that document 01's columns carry it, that text and pattern are bytes.
 -- Assumes nothing.
 use mathlib.Core.Path.{_≡_, refl, sym, _∙_, ap}
 use mathlib.Core.Bool.{Bool, not}
@@ -24,20 +24,20 @@ use Rattle.theory.specs.Match.Bijections.{MatchesColumns, matches-columns}
 use Rattle.theory.specs.Bytes.{Bytes}
 use Rattle.theory.specs.Match.Answers.{no-mismatch-iff}
 use Rattle.shapes.specs.Questions.{Question, acrossOf, windowsOf}
-use Rattle.shapes.specs.Windows.{cornerRow, cornerColumn}
-use Rattle.shapes.specs.Windows.Laws.{window-at}
-use Rattle.grid.specs.Distinct.{distinct}
+use Rattle.cells.specs.Windows.{cornerRow, cornerColumn}
+use Rattle.cells.specs.Windows.Laws.{window-at}
+use Rattle.occurrences.specs.Distinct.{distinct}
 use Rattle.matching.specs.Compare.{patternOf, windowIn, positions, CornerIn, MatchesAt}
 use Rattle.listing.specs.Records.{bytesOf}
-use Rattle.listing.specs.Reader.{readSaid, cursorSaid}
-use Rattle.listing.specs.Reader.RoundTrip.{records-read}
+use Rattle.reading.specs.Reader.{readSaid, cursorSaid}
+use Rattle.reading.specs.Reader.RoundTrip.{records-read}
 use Rattle.listing.specs.Entries.{bytesAll, pairsOf, mismatchBodyAt, mismatchRecord, RightPairs}
 use Rattle.listing.specs.Entries.Laws.{bytes-append, entry-found, entry-refused, length-found, length-refused}
 use Rattle.listing.specs.Records.Lengths.{length-joined, length-closing}
 use Rattle.listing.specs.declared.records.Record.{Record}
 use Rattle.listing.specs.declared.records.Record.the-variants.{Found, Closing}
-use Rattle.listing.specs.declared.reader.Read.the-variants.{Whole}
-use Rattle.writer.specs.Listing.{listingLength}
+use Rattle.reading.specs.declared.reader.Read.the-variants.{Whole}
+use Rattle.entries.specs.Listing.{listingLength}
 use Rattle.guarantee.specs.Demand3.{timesFound, timesRefused, Shown, as-found, as-refused, recordsOf, Shows}
 use Rattle.guarantee.specs.Demand3.{Demand3}
 use Rattle.guarantee.specs.Demand3.Standing.{corner-of}

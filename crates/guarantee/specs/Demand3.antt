@@ -20,18 +20,18 @@ use Rattle.sets.specs.Symbols.{symbolsOf}
 use Rattle.matching.specs.Compare.{patternOf, windowIn, positions, CornerIn, told, oneWindowOf, MatchesAt}
 use Rattle.matching.specs.declared.compare.WindowAnswer.{WindowAnswer}
 use Rattle.listing.specs.declared.records.Record.{Record}
-use Rattle.writer.specs.Listing.{verdictRecords}
+use Rattle.entries.specs.Listing.{verdictRecords}
 use Rattle.search.specs.Search.{Lent, done, searchOf}
 use Rattle.search.specs.declared.search.Searched.the-variants.{Listed}
-use Rattle.verify.specs.Check.{checkedSaid, checkOf}
-use Rattle.verify.specs.declared.check.Checked.the-variants.{Kept}
+use Rattle.rules.specs.Check.{checkedSaid, checkOf}
+use Rattle.rules.specs.declared.checked.Checked.the-variants.{Kept}
 use mathlib.Core.Bool.{Bool, false}
 use lib.Dec.{eqb, ltb}
 use Rattle.theory.specs.Test.{pick, both}
 use Rattle.theory.specs.Join.{joined}
 use Rattle.theory.specs.Count.{count}
-use Rattle.shapes.specs.Windows.{cornerRow, cornerColumn}
-use Rattle.grid.specs.Distinct.{distinct}
+use Rattle.cells.specs.Windows.{cornerRow, cornerColumn}
+use Rattle.occurrences.specs.Distinct.{distinct}
 use Rattle.listing.specs.Entries.{bytesAll, pairsOf, mismatchBodyAt, mismatchRecord, RightPairs}
 use Rattle.listing.specs.declared.records.MismatchBody.{MismatchBody}
 use Rattle.listing.specs.declared.records.Record.the-variants.{Found, Pair, AlikeInPattern, AlikeInWindow, Closing}
@@ -138,13 +138,17 @@ OfTheCheck =
     → Bytes (q .pattern .cells) × Bytes listing
     → Demand3 q listing found refused
 
+-- each window's records list its one-window answer, as the one-window question ensures it
+abbrev pub ListsAnswers : Question → (ℕ → ℕ → List Record) → Type 0
+ListsAnswers q entry =
+    (row column : ℕ) → CornerIn q row column → (a : WindowAnswer) → told a ≡ oneWindowOf q row column
+    → entry row column ≡ verdictRecords row column (q .pattern .columns) (symbolsOf (q .pattern .cells))
+    (a .bijection .forward) (a .verdict)
+
 -- of every listing that the search writes: as many first bytes of the listing buffer after it as the returned length
 -- says. There besides each window's records list its one-window answer.
 abbrev pub OfTheSearch : Type 0
 OfTheSearch =
     (q : Question) (l after : Lent) (found refused size : ℕ)
     → done (Listed found refused size) after ≡ searchOf q l → Bytes (q .pattern .cells)
-    → (entry : ℕ → ℕ → List Record) × Shows q (take size (after .listing)) found refused entry
-    × ((row column : ℕ) → CornerIn q row column → (a : WindowAnswer) → told a ≡ oneWindowOf q row column
-    → entry row column ≡ verdictRecords row column (q .pattern .columns) (symbolsOf (q .pattern .cells))
-    (a .bijection .forward) (a .verdict))
+    → (entry : ℕ → ℕ → List Record) × Shows q (take size (after .listing)) found refused entry × ListsAnswers q entry

@@ -1,8 +1,8 @@
 -- Document 01's drafts with a star, all nine in one statement about the meanings (`starred-drafts`): that each search
 -- is accepted, its three numbers and its listing in full; the links and the tallies. Why it holds: what a window's
--- cells and a pattern's symbols are is sealed in grid, and grid's laws say it as reads of a list. With those in their
--- place the listing computes (`listing-read`), so that each draft is that one law at its numbers. Links and tallies are
--- computed in grid.
+-- cells and a pattern's symbols are is sealed in cells and occurrences, and their laws say it as reads of a list. With
+-- those in their place the listing computes (`listing-read`), so that each draft is that one law at its numbers. Links
+-- and tallies are computed in counts (`Examples`).
 -- Assumes nothing.
 use mathlib.Core.Path.{_≡_, refl, sym, _∙_, ap, ap₂, fun-ext}
 use mathlib.Core.Bool.{Bool, true, false, not}
@@ -18,30 +18,30 @@ use Rattle.theory.specs.Count.{count, members}
 use Rattle.theory.specs.Count.Laws.{members-ext}
 use Rattle.theory.specs.Match.{Answer, mismatchAt, earliest, ends, firstEnd, mismatchEnding, answerOf, imageOf, isMatch}
 use Rattle.shapes.specs.Shapes.{corners, windows}
-use Rattle.shapes.specs.Windows.{cornerRow, cornerColumn}
-use Rattle.shapes.specs.Windows.Laws.{window-at}
-use Rattle.grid.specs.Distinct.{contains}
-use Rattle.grid.specs.Distinct.Sets.{contains-none, contains-cons}
-use Rattle.shapes.specs.Said.{filled, accepts, overFront}
-use Rattle.shapes.specs.declared.refusals.Outcome.the-variants.{Accepted}
+use Rattle.cells.specs.Windows.{cornerRow, cornerColumn}
+use Rattle.cells.specs.Windows.Laws.{window-at}
+use Rattle.occurrences.specs.Distinct.{contains}
+use Rattle.occurrences.specs.Distinct.Sets.{contains-none, contains-cons}
+use Rattle.refusals.specs.Said.{filled, accepts, overFront}
+use Rattle.refusals.specs.declared.refusals.Outcome.the-variants.{Accepted}
 use Rattle.grid.specs.Strips.{linksOf, stripFrom}
-use Rattle.grid.specs.Counts.{countsOf}
-use Rattle.grid.specs.Examples.{example-links, example-counts}
+use Rattle.counts.specs.Counts.{countsOf}
+use Rattle.counts.specs.Examples.{example-links, example-counts}
 use Rattle.matching.specs.Compare.{patternAt}
 use Rattle.listing.specs.Entries.{bytesAll, pairsOf, entryOf}
 use Rattle.listing.specs.declared.records.Record.{Record}
 use Rattle.listing.specs.declared.records.Record.the-variants.{Closing}
 use Rattle.shapes.specs.Questions.{ask, fourSides, Question, Posed, linksNeeded, windowsOf}
-use Rattle.writer.specs.Listing.{entryOfWindow, foundIn, refusedIn, searchRecords, searchListing, neededLength}
+use Rattle.entries.specs.Listing.{entryOfWindow, foundIn, refusedIn, searchRecords, searchListing, neededLength}
 use Rattle.theory.specs.Test.Laws.{says-true, le-tested, both-tested, tested}
 use Rattle.flags.specs.Flags.{roomsOf}
 use Rattle.search.specs.Search.{Lent, searchOf}
 use Rattle.search.specs.Search.Accepted.{lists, said-is, search-accepted}
-use Rattle.writer.specs.Listing.Length.{length-listing}
+use Rattle.entries.specs.Listing.Length.{length-listing}
 
 -- ---- the listing, computed
 
--- v stands in a list, as grid's laws of `contains` say it
+-- v stands in a list, as the laws of `contains` say it
 standsIn : List ℕ → ℕ → Bool
 standsIn [] v = false
 standsIn (x ∷ xs) v = pick (eqb v x) true (standsIn xs v)
@@ -52,7 +52,7 @@ contains-stands [] v = contains-none v
 contains-stands (x ∷ xs) v = contains-cons x xs v ∙ ap (pick (eqb v x) true) (contains-stands xs v)
 
 module _ (rows columns : ℕ) (pattern : List ℕ) (height width : ℕ) where
-  -- the symbols of the window at a corner by position, as grid's law `window-at` says them
+  -- the symbols of the window at a corner by position, as the law `window-at` says them
   readAt : List ℕ → ℕ → ℕ → ℕ → ℕ
   readAt text row column p = getD text ((row + p / width) * columns + column + p % width) 0
 
@@ -65,25 +65,25 @@ module _ (rows columns : ℕ) (pattern : List ℕ) (height width : ℕ) where
   answerFrom w k = answerOf (patternAt pattern) (windowFrom w k) (height * width)
 
   -- and its records, where the pattern's symbols are these
-  entryFrom : (ℕ → ℕ → ℕ → ℕ) → List ℕ → ℕ → List Record
-  entryFrom w symbols k =
+  entryRead : (ℕ → ℕ → ℕ → ℕ) → List ℕ → ℕ → List Record
+  entryRead w symbols k =
       entryOf (cornerRow (corners columns width) k) (cornerColumn (corners columns width) k) width symbols
       (imageOf (patternAt pattern) (windowFrom w k) (height * width)) (answerFrom w k)
 
-  closingFrom : (ℕ → ℕ → ℕ → ℕ) → Record
-  closingFrom w =
+  closingRead : (ℕ → ℕ → ℕ → ℕ) → Record
+  closingRead w =
       Closing (count (λ k. isMatch (answerFrom w k)) (windows rows columns height width))
       (count (λ k. not (isMatch (answerFrom w k))) (windows rows columns height width))
 
   -- `searchListing` with windows and symbols for its arguments
   listingFrom : (ℕ → ℕ → ℕ → ℕ) → List ℕ → List ℕ
   listingFrom w symbols =
-      bytesAll (joined (entryFrom w symbols) (windows rows columns height width) ++ (closingFrom w ∷ []))
+      bytesAll (joined (entryRead w symbols) (windows rows columns height width) ++ (closingRead w ∷ []))
 
   -- the listing is that of windows and symbols read from the lists: on lists written out, this computes
   listing-read : (text : List ℕ) → searchListing (ask text rows columns pattern height width)
       ≡ listingFrom (readAt text) (members (standsIn pattern) 256)
-  unfolding searchListing searchRecords entryOfWindow foundIn refusedIn listingFrom closingFrom entryFrom answerFrom windowFrom readAt
+  unfolding searchListing searchRecords entryOfWindow foundIn refusedIn listingFrom closingRead entryRead answerFrom windowFrom readAt
   listing-read text =
       ap₂ listingFrom
       (fun-ext (λ row. fun-ext (λ column. fun-ext (window-at text columns row column width))))
@@ -224,7 +224,7 @@ pub starred-drafts : record {
   exchanged : Searches (ask (2 ∷ 1 ∷ []) 1 2 (1 ∷ 2 ∷ []) 1 2) 1 0
       ((1 ∷ 0 ∷ 0 ∷ []) ++ (2 ∷ 1 ∷ 2 ∷ []) ++ (2 ∷ 2 ∷ 1 ∷ []) ++ (5 ∷ 0 ∷ 1 ∷ 0 ∷ 0 ∷ []));
 }
-unfolding standsIn readAt windowFrom answerFrom entryFrom closingFrom listingFrom foundFrom refusedFrom byteList members count joined bytesAll entryOf pairsOf imageOf answerOf firstEnd first ends earliest mismatchAt mismatchEnding
+unfolding standsIn readAt windowFrom answerFrom entryRead closingRead listingFrom foundFrom refusedFrom byteList members count joined bytesAll entryOf pairsOf imageOf answerOf firstEnd first ends earliest mismatchAt mismatchEnding
 starred-drafts =
     record {
       two-windows =

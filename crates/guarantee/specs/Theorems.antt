@@ -1,7 +1,7 @@
--- DEMAND 3, one theorem over search and check (`demand-3`). It needs nothing but what the two operations ensure: each
--- of its premises is an `ensures` of `search` or of `check`. Why it holds: what the check accepts keeps the rules, what
--- the search writes keeps them too (`search-keeps`), and a listing that keeps the rules is as the demand says
--- (`keeps-shows`).
+-- DEMAND 3, one theorem over search and check (`demand-3`). It needs nothing but what the operations ensure: each of
+-- its premises is an `ensures` of `search`, of `check` or, for the one-window answers, of `one_window`. Why it holds:
+-- what the check accepts keeps the rules, what the search writes keeps them too (`search-keeps`), and a listing that
+-- keeps the rules is as the demand says (`keeps-shows`).
 -- Assumes nothing.
 use mathlib.Core.Path.{_≡_, refl, _∙_}
 use mathlib.Core.List.{List}
@@ -16,22 +16,22 @@ use mathlib.Core.Logic.{_↔_}
 use Rattle.theory.specs.Match.Bijections.{MatchesColumns}
 use Rattle.shapes.specs.Questions.{Question, Posed, acrossOf}
 use Rattle.sets.specs.Symbols.{symbolsOf}
-use Rattle.shapes.specs.Windows.Laws.{corner-row, corner-column}
+use Rattle.cells.specs.Windows.Laws.{corner-row, corner-column}
 use Rattle.matching.specs.Compare.{patternOf, windowIn, positions, CornerIn, told, oneWindowOf}
 use Rattle.matching.specs.declared.compare.WindowAnswer.{WindowAnswer}
 use Rattle.matching.specs.Questions.{answerAt}
-use Rattle.writer.specs.Listing.{imageAt, entryOfWindow, foundIn, refusedIn, searchRecords, searchListing}
-use Rattle.writer.specs.Listing.{verdictRecords}
+use Rattle.entries.specs.Listing.{imageAt, entryOfWindow, foundIn, refusedIn, searchRecords, searchListing}
+use Rattle.entries.specs.Listing.{verdictRecords}
 use Rattle.search.specs.Search.{Lent, done, searchOf}
 use Rattle.search.specs.Search.Accepted.{Lists}
 use Rattle.search.specs.Search.Outcome.{listed, listed-bytes}
 use Rattle.search.specs.Theorems.{lists-answer}
 use Rattle.search.specs.declared.search.Searched.the-variants.{Listed}
-use Rattle.verify.specs.Check.{checkedSaid, checkOf}
-use Rattle.verify.specs.Rules.{TrueOf, Entries, recordsTo, Keeps}
-use Rattle.verify.specs.Theorems.{accepts-all, accepts-only}
-use Rattle.verify.specs.declared.check.Checked.{Checked}
-use Rattle.verify.specs.declared.check.Checked.the-variants.{Kept}
+use Rattle.rules.specs.Check.{checkedSaid, checkOf}
+use Rattle.rules.specs.Rules.{TrueOf, Entries, recordsTo, Keeps}
+use Rattle.rules.specs.Theorems.{accepts-all, accepts-only}
+use Rattle.rules.specs.declared.checked.Checked.{Checked}
+use Rattle.rules.specs.declared.checked.Checked.the-variants.{Kept}
 use Rattle.guarantee.specs.Demand3.{timesFound, recordsOf, OfTheCheck, OfTheSearch}
 use Rattle.guarantee.specs.Corollaries.{found-columns}
 use Rattle.guarantee.specs.Demand3.Standing.{entryShown, keeps-shows}

@@ -12,7 +12,7 @@ use lib.ListN.{length, getD, take, drop}
 use Rattle.theory.specs.Test.{both}
 use Rattle.shapes.specs.Shapes.{Sized}
 use Rattle.shapes.specs.declared.shapes.Shape.{Shape}
-use Rattle.shapes.specs.Said.{Said, _then_, check}
+use Rattle.refusals.specs.Said.{Said, _then_, check}
 use Rattle.shapes.specs.Questions.{Question, ask, sidesOf, sidesSaid, cellsSaid, sizeSaid}
 
 -- ---- the input

@@ -1,12 +1,12 @@
 // The program's own refusals, in document 01's order: 1, 2, 8, 3, 4.
 ghost use mathlib.Core.Path.{_≡_};
 ghost use Prim.Native.Nat.{_≤_};
-ghost use Rattle.shapes.specs.Said.{outcomeSaid};
+ghost use Rattle.refusals.specs.Said.{outcomeSaid};
 ghost use Rattle.shapes.specs.Questions.{fourSides};
 ghost use Rattle.input.specs.Input.{fewCells, countSaid, sizesSaid, inputSaid};
-use shapes::refusals::Outcome;
-use shapes::refusals::Reason;
-use shapes::refusals::Refusal;
+use refusals::refusals::Outcome;
+use refusals::refusals::Reason;
+use refusals::refusals::Refusal;
 use shapes::shapes::good_sides;
 use shapes::shapes::window_fits;
 
@@ -24,7 +24,7 @@ fn few_cells(cells: usize, pattern_cells: usize) -> bool
 }
 
 // 8, then 3: cells and pattern_cells are what the sides ask for, given is what stands behind the sizes.
-fn cells_outcome(cells: usize, pattern_cells: usize, given: usize) -> Outcome
+fn count_outcome(cells: usize, pattern_cells: usize, given: usize) -> Outcome
     requires { ⌜ (cells ≤ 65025) × («pattern_cells» ≤ 65025) ⌝ }
     ensures { λ r. ⌜ outcomeSaid r ≡ countSaid cells «pattern_cells» given ⌝ }
 {
@@ -46,7 +46,7 @@ fn sizes_outcome(rows: usize, columns: usize, height: usize, width: usize, given
     if !good_sides(rows, columns, height, width) {
         return Outcome::Refused(Refusal::Plain(Reason::SideRange));
     }
-    let outcome = cells_outcome(rows * columns, height * width, given);
+    let outcome = count_outcome(rows * columns, height * width, given);
     let Outcome::Accepted = outcome else {
         return outcome;
     };

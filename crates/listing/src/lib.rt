@@ -1,3 +1,2 @@
-// The records of a listing: their bytes, and the reader.
-pub mod reader;
+// The records of a listing, and their bytes.
 pub mod records;

@@ -2,12 +2,11 @@
 -- Assumes nothing.
 pub mod Numbers
 pub mod Laws
-pub mod Operations
 use mathlib.Core.Bool.{Bool}
 use Prim.Native.Nat.{ℕ}
 use lib.ListN.{set, replicate}
 use Rattle.theory.specs.Columns.{agree, free, chained}
-use Rattle.shapes.specs.Said.{Said, newBy, _then_, check, outcomeSaid}
+use Rattle.refusals.specs.Said.{Said, newBy, _then_, check, outcomeSaid}
 use Rattle.mapping.specs.declared.bijections.Bijection.{Bijection}
 use Rattle.mapping.specs.declared.bijections.BijectionAnswer.{BijectionAnswer}
 

@@ -1,11 +1,11 @@
 // Bijections between symbols, as two columns: forward gives the image of a pattern symbol, backward the preimage of a
 // text symbol.
 ghost use mathlib.Core.Path.{_≡_};
-ghost use Rattle.theory.specs.Columns.{noneOr, through, chained, backAt, leadsBack};
-ghost use Rattle.mapping.specs.Bijections.{emptyBijection, goodColumns, renamed, pairOf, invertOf, composeOf};
-use shapes::refusals::Outcome;
-use shapes::refusals::Reason;
-use shapes::refusals::Refusal;
+ghost use Rattle.theory.specs.Columns.{noneOr, backAt, leadsBack};
+ghost use Rattle.mapping.specs.Bijections.{emptyBijection, goodColumns, renamed, pairOf, invertOf};
+use refusals::refusals::Outcome;
+use refusals::refusals::Reason;
+use refusals::refusals::Refusal;
 
 // 256 stands for no image and no preimage.
 pub struct Bijection {
@@ -66,7 +66,7 @@ fn leads_back<'a>(f: &'a [u16; 256], g: &'a [u16; 256]) -> bool
 }
 
 // Whether the columns agree and hold nothing above 256.
-fn columns_agree(b: Bijection) -> bool
+pub fn columns_agree(b: Bijection) -> bool
     ensures { λ r. ⌜ r ≡ goodColumns b ⌝ }
 {
     let f = b.forward;
@@ -139,63 +139,6 @@ pub fn invert(b: Bijection) -> BijectionAnswer
     let r = Bijection {
         forward: g,
         backward: f,
-    };
-    BijectionAnswer {
-        outcome: Outcome::Accepted,
-        bijection: r,
-    }
-}
-
-// The image of x under g, or none where x is none.
-fn image_of<'a>(g: &'a [u16; 256], x: u16) -> u16
-    ensures { λ r. ⌜ r ≡ through (now (g .entry)) x ⌝ }
-{
-    if x < 256 {
-        let i = x as usize;
-        return g[i];
-    }
-    256
-}
-
-// First one column, then the other.
-fn chain<'a>(f: &'a [u16; 256], g: &'a [u16; 256]) -> [u16; 256]
-    ensures { λ r. ⌜ r ≡ chained (now (f .entry)) (now (g .entry)) ⌝ }
-{
-    let mut r = [256u16; 256];
-    let mut a = 0;
-    while a < 256 {
-        let x = f[a];
-        r[a] = image_of(g, x);
-        a += 1;
-    }
-    r
-}
-
-// First b, then d. Refused by 14 if either earns it.
-pub fn compose(b: Bijection, d: Bijection) -> BijectionAnswer
-    ensures { λ r. ⌜ renamed r ≡ composeOf b d ⌝ }
-{
-    if !columns_agree(b) {
-        return BijectionAnswer {
-            outcome: Outcome::Refused(Refusal::Plain(Reason::ColumnsDisagree)),
-            bijection: b,
-        };
-    }
-    if !columns_agree(d) {
-        return BijectionAnswer {
-            outcome: Outcome::Refused(Refusal::Plain(Reason::ColumnsDisagree)),
-            bijection: b,
-        };
-    }
-    let bf = b.forward;
-    let bb = b.backward;
-    let df = d.forward;
-    let db = d.backward;
-    let f = chain(&bf, &df);
-    let g = chain(&db, &bb);
-    let r = Bijection {
-        forward: f,
-        backward: g,
     };
     BijectionAnswer {
         outcome: Outcome::Accepted,

@@ -3,8 +3,6 @@
 pub mod Positions
 pub mod Rows
 pub mod Ends
-pub mod Columns
-pub mod Accepted
 pub mod Verdicts
 use mathlib.Core.List.{List, [], _∷_}
 use Prim.Native.Nat.{ℕ, _+_, _*_, _≤_, _<_}
@@ -12,13 +10,13 @@ use lib.Dec.{eqb}
 use lib.ListN.{length, getD, replicate}
 use Rattle.theory.specs.Test.{pick}
 use Rattle.theory.specs.Match.{Matches, Answer, matched, mismatched, answerOf, column}
-use Rattle.shapes.specs.Said.{Said, accepts, _then_, check, refusalSaid, newBy}
+use Rattle.refusals.specs.Said.{Said, accepts, _then_, check, refusalSaid, newBy}
 use Rattle.shapes.specs.Questions.{Question, shapeSaid}
 use Rattle.shapes.specs.Shapes.{cornerInside, Corner}
-use Rattle.shapes.specs.Windows.{windowAt}
+use Rattle.cells.specs.Windows.{windowAt}
 use Rattle.mapping.specs.Bijections.{emptyBijection}
 use Rattle.mapping.specs.declared.bijections.Bijection.{Bijection}
-use Rattle.shapes.specs.declared.windows.WindowPlace.{WindowPlace}
+use Rattle.cells.specs.declared.windows.WindowPlace.{WindowPlace}
 use Rattle.matching.specs.declared.compare.Verdict.{Verdict}
 use Rattle.matching.specs.declared.compare.WindowAnswer.{WindowAnswer}
 use Rattle.matching.specs.declared.compare.Verdict.the-variants.{Match, Mismatch, Refused}

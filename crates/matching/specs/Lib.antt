@@ -1,5 +1,3 @@
 pub mod Compare
 pub mod Windows
-pub mod Theorems
-pub mod Examples
 pub mod Questions

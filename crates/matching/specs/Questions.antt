@@ -3,7 +3,7 @@
 use Prim.Native.Nat.{ℕ}
 use Rattle.theory.specs.Match.{Answer}
 use Rattle.shapes.specs.Questions.{Question, acrossOf}
-use Rattle.shapes.specs.Windows.{cornerRow, cornerColumn}
+use Rattle.cells.specs.Windows.{cornerRow, cornerColumn}
 use Rattle.matching.specs.Compare.{answerIn}
 
 -- the answer for window k

@@ -3,8 +3,8 @@
 pub mod Laws
 use Prim.Native.Nat.{ℕ, _<_}
 use Rattle.shapes.specs.Shapes.{corners}
-use Rattle.shapes.specs.Windows.{cornerRow, cornerColumn}
-use Rattle.shapes.specs.declared.windows.WindowPlace.{WindowPlace}
+use Rattle.cells.specs.Windows.{cornerRow, cornerColumn}
+use Rattle.cells.specs.declared.windows.WindowPlace.{WindowPlace}
 
 -- the place of window k: its corner is at row k / across and column k % across
 abbrev pub windowPlace : ℕ → ℕ → ℕ → ℕ → WindowPlace

@@ -1,3 +1,3 @@
-// The one-window question: whether a pattern matches the window of its size at a corner; window after window.
+// A window against a pattern: the first position at which they part, and the two cells; window after window.
 pub mod compare;
 pub mod windows;

@@ -3,7 +3,7 @@ ghost use mathlib.Core.Path.{_≡_};
 ghost use Prim.Native.Nat.{ℕ, _+_, _<_};
 ghost use Rattle.shapes.specs.Shapes.{corners};
 ghost use Rattle.matching.specs.Windows.{windowPlace};
-use shapes::windows::WindowPlace;
+use cells::windows::WindowPlace;
 
 // The window after v, row by row of corners: from the one before it, so that its corner costs no division.
 pub fn next_window(v: WindowPlace, across: usize) -> WindowPlace

@@ -4,12 +4,12 @@ ghost use mathlib.Core.Path.{_≡_};
 ghost use Prim.Native.Nat.{_+_, _*_, _≤_, _<_};
 ghost use lib.ListN.{length};
 ghost use Rattle.theory.specs.Written.{written};
-ghost use Rattle.listing.specs.Reader.{sizeAt};
-ghost use Rattle.listing.specs.Reader.Reading.{HasRecord};
+ghost use Rattle.reading.specs.Reader.{sizeAt};
+ghost use Rattle.reading.specs.Reader.Reading.{HasRecord};
 ghost use Rattle.printing.specs.Lines.{lineOf, refusalLine, Recorded, Printed};
 use crate::decimal::write_item;
-use listing::reader::Cursor;
-use listing::reader::Read;
+use reading::reader::Cursor;
+use reading::reader::Read;
 
 // Writes the line of some bytes at a place; the place after it.
 fn write_line(output: &mut [u8], at: usize, bytes: &[u8]) -> usize

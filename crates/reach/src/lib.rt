@@ -1,4 +1,2 @@
-// How far one window of a strip agrees with a pattern, symbol by symbol, with two tables of 256 positions.
-pub mod places;
+// How far one window of a strip agrees with a pattern, row by row.
 pub mod reach;
-pub mod rows;

@@ -1,9 +1,9 @@
 // How far a window of a strip agrees with the pattern, from a place on up to which it is known to agree.
 ghost use Prim.Native.Nat.{_+_, _-_, _<_};
 ghost use Rattle.reach.specs.Reach.{ReachAt, Reached};
-use crate::rows::earlier_by;
-use crate::rows::part_end;
 use grid::strips::Strip;
+use rows::rows::earlier_by;
+use rows::rows::part_end;
 
 // The place in the strip at which a mismatch of a window ends first, with the mismatch's earlier position in the
 // window; or the place at which the window ends, with 0.

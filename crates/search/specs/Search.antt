@@ -1,6 +1,5 @@
 -- Document 01's search: one function from what is asked and lent to what is said and left (`searchOf`).
 -- Assumes nothing.
-pub mod Pattern
 pub mod Accepted
 pub mod Answers
 pub mod Steps
@@ -9,11 +8,11 @@ use mathlib.Core.List.{List, [], _∷_}
 use Prim.Native.Nat.{ℕ}
 use lib.Dec.{leb}
 use lib.ListN.{length}
-use Rattle.theory.specs.Test.{both}
-use Rattle.shapes.specs.Said.{Said, accepts, refuses, _then_, check, checkWith, bufferBy, refusalSaid}
-use Rattle.shapes.specs.Questions.{Question, shapeSaid, linksNeeded, windowsOf}
-use Rattle.flags.specs.Flags.{Work, working, Rooms, roomsOf, marked}
-use Rattle.writer.specs.Listing.{foundIn, refusedIn, neededLength, searchListing}
+use Rattle.refusals.specs.Said.{Said, accepts, refuses, _then_, checkWith, bufferBy, refusalSaid}
+use Rattle.shapes.specs.Questions.{Question}
+use Rattle.flags.specs.Flags.{Work, working, Rooms, roomsOf, workAfter}
+use Rattle.entries.specs.Listing.{foundIn, refusedIn, neededLength, searchListing}
+use Rattle.rooms.specs.Rooms.{roomSaid}
 use Rattle.search.specs.declared.search.Searched.{Searched}
 use Rattle.search.specs.declared.search.Searched.the-variants.{Listed, Refused}
 
@@ -41,12 +40,6 @@ searchedSaid (Refused why) = refusalSaid why
 abbrev pub done : Searched → Lent → Done
 done r l = record { said = searchedSaid r; lent = l }
 
--- 2, 3, 4, 9, 10 in this order
-unfoldable pub roomSaid : Question → Rooms → Said
-roomSaid q r =
-    shapeSaid q then check (leb (linksNeeded q) (r .links)) 9 then check
-    (both (leb (windowsOf q) (r .counts)) (leb (windowsOf q) (r .flags))) 10
-
 -- then 11, which returns the length needed; accepted, found, refused and the length
 unfoldable pub listedSaid : Question → ℕ → Said
 listedSaid q listing =
@@ -60,7 +53,7 @@ listedOf q l =
       said = listedSaid q (length (l .listing));
       lent =
           record {
-            work = marked q (l .work);
+            work = workAfter q (l .work);
             listing = bufferBy (listedSaid q (length (l .listing))) (searchListing q)
                 (l .listing);
           };

@@ -20,36 +20,38 @@ use Rattle.theory.specs.Match.Answers.{LeastMismatch, match-iff, mismatch-iff}
 use Rattle.theory.specs.Match.Images.{column-at}
 use Rattle.theory.specs.Bytes.{Bytes}
 use Rattle.shapes.specs.Questions.{Question, Posed, sidesOf, acrossOf, windowsOf, linksNeeded}
-use Rattle.shapes.specs.Windows.Laws.{corner-row, corner-column}
+use Rattle.cells.specs.Windows.Laws.{corner-row, corner-column}
 use Rattle.sets.specs.Symbols.{symbolsOf}
-use Rattle.grid.specs.Distinct.{contains}
-use Rattle.grid.specs.Counts.{countsOf}
-use Rattle.grid.specs.Counts.Laws.{counts-accepted, counts-after}
+use Rattle.occurrences.specs.Distinct.{contains}
+use Rattle.counts.specs.Counts.{countsOf}
+use Rattle.counts.specs.Counts.Laws.{counts-accepted, counts-after}
 use Rattle.matching.specs.Compare.{patternOf, windowIn, positions, MatchesAt, verdictOf, bijectionOf, told, oneWindowOf}
-use Rattle.matching.specs.Compare.Accepted.{Askable}
-use Rattle.matching.specs.Theorems.{verdict-right, bijection-right}
+use Rattle.answering.specs.Accepted.{Askable}
+use Rattle.answering.specs.Theorems.{verdict-right, bijection-right}
 use Rattle.matching.specs.declared.compare.WindowAnswer.{WindowAnswer}
 use Rattle.listing.specs.Records.{bytesOf}
-use Rattle.listing.specs.Reader.{readSaid, cursorSaid}
-use Rattle.listing.specs.Reader.RoundTrip.{records-read}
+use Rattle.reading.specs.Reader.{readSaid, cursorSaid}
+use Rattle.reading.specs.Reader.RoundTrip.{records-read}
 use Rattle.listing.specs.Entries.{bytesAll, pairsOf, mismatchBodyAt, mismatchRecord, RightPairs, entryOf}
 use Rattle.listing.specs.Entries.Laws.{pairs-ext, right-pairs, entry-found, entry-refused}
 use Rattle.listing.specs.declared.records.Record.{Record}
 use Rattle.listing.specs.declared.records.Record.the-variants.{Found}
-use Rattle.listing.specs.declared.reader.Read.the-variants.{Whole}
-use Rattle.flags.specs.Flags.{Work, RoomFor, roomsOf, windowFlag, countAt, marked, Rooms}
+use Rattle.reading.specs.declared.reader.Read.the-variants.{Whole}
+use Rattle.flags.specs.Flags.{Work, RoomFor, roomsOf, windowFlag, countAt, workAfter, Rooms}
 use Rattle.flags.specs.Flags.Laws.{flag-one}
-use Rattle.writer.specs.Listing.{verdictRecords, entryOfWindow, foundIn, refusedIn, searchRecords, searchListing}
-use Rattle.writer.specs.Listing.{neededLength}
-use Rattle.writer.specs.Listing.Totals.{found-refused}
-use Rattle.writer.specs.Listing.Length.{length-listing}
+use Rattle.entries.specs.Listing.{verdictRecords, entryOfWindow, foundIn, refusedIn, searchRecords, searchListing}
+use Rattle.entries.specs.Listing.{neededLength}
+use Rattle.entries.specs.Listing.Totals.{found-refused}
+use Rattle.entries.specs.Listing.Length.{length-listing}
 use lib.Dec.{leb}
 use Rattle.theory.specs.Test.{both}
-use Rattle.shapes.specs.Said.{accepts, saidNumber}
-use Rattle.shapes.specs.Said.Laws.{Proper, accepting, check-proper, then-proper, zero-accepts}
+use Rattle.refusals.specs.Said.{accepts, saidNumber}
+use Rattle.refusals.specs.Said.Laws.{Proper, accepting, check-proper, then-proper, zero-accepts}
 use Rattle.shapes.specs.Questions.Laws.{shape-proper}
-use Rattle.search.specs.Search.{searchSaid, roomSaid, listedSaid, Lent, searchOf, listedOf}
-use Rattle.search.specs.Search.Accepted.{said-is, search-passed, search-accepted, Lists, room-passes}
+use Rattle.search.specs.Search.{searchSaid, listedSaid, Lent, searchOf, listedOf}
+use Rattle.rooms.specs.Rooms.{roomSaid}
+use Rattle.search.specs.Search.Accepted.{said-is, search-passed, search-accepted, Lists}
+use Rattle.rooms.specs.Rooms.Laws.{room-passes}
 
 -- ---- one window
 
@@ -193,14 +195,14 @@ module _ (q : Question) where
         rw (a .written, ← length-listing q bytes) (take-append-seam (searchListing q) _)
 
     module _ (room : RoomFor q (roomsOf (l .work))) where
-      work-is : searchOf q l .lent .work ≡ marked q (l .work)
+      work-is : searchOf q l .lent .work ≡ workAfter q (l .work)
       unfolding searchOf listedOf
       work-is = rw (room-passes q (roomsOf (l .work)) room)
 
       -- tallies are as the tally operation leaves them
       pub counts-as-counted : searchOf q l .lent .work .counts
           ≡ countsOf (q .text .cells) (sidesOf q) (l .work .counts) .buffer
-      unfolding marked
+      unfolding workAfter
       counts-as-counted =
           ap (λ (w : Work). w .counts) work-is
           ∙ (rw (length-table (countAt q) (windowsOf q)))
@@ -212,7 +214,7 @@ module _ (q : Question) where
       pub flag-iff : (row column : ℕ) → row * acrossOf q + column < windowsOf q → column < acrossOf q
           → (getD (searchOf q l .lent .work .flags) (row * acrossOf q + column) 0 ≡ 1)
           ↔ MatchesAt q row column
-      unfolding marked
+      unfolding workAfter
       flag-iff row column h c =
           rw (
             work-is,

@@ -1,5 +1,3 @@
 // The search: the flag of every window, and then the listing. Its steps are parts of it, and no operations of their
 // own.
-mod pattern;
 pub mod search;
-mod totals;

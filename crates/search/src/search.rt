@@ -2,21 +2,19 @@
 // it.
 ghost use mathlib.Core.Path.{_≡_};
 ghost use Rattle.theory.specs.Bytes.{Bytes};
-ghost use Rattle.shapes.specs.Said.{outcomeSaid};
 ghost use Rattle.shapes.specs.Questions.{ask, asked};
 ghost use lib.ListN.{length};
 ghost use Rattle.flags.specs.Flags.{RoomFor, rooms};
-ghost use Rattle.search.specs.Search.{done, lend, roomSaid, listedOf, searchOf};
-use crate::pattern::read_pattern;
-use crate::totals::totals_of;
-use flags::flags::flag_all;
-use reach::places::no_positions;
-use shapes::refusals::Outcome;
-use shapes::refusals::Reason;
-use shapes::refusals::Refusal;
+ghost use Rattle.search.specs.Search.{done, lend, listedOf, searchOf};
+use flagged::windows::flag_all;
+use refusals::refusals::Outcome;
+use refusals::refusals::Refusal;
+use rooms::rooms::room_outcome;
+use rows::places::no_positions;
 use shapes::shapes::Shape;
-use shapes::shapes::question_outcome;
 use shapes::tables::no_symbols;
+use totals::pattern::read_pattern;
+use totals::totals::totals_of;
 use writer::writing::write_listing;
 
 // What a search answers.
@@ -28,39 +26,6 @@ pub enum Searched {
         length: usize,
     },
     Refused(Refusal),
-}
-
-// By what the search is refused before it begins.
-fn room_outcome(
-    text: &[u8],
-    pattern: &[u8],
-    s: Shape,
-    links: usize,
-    counts: usize,
-    flags: usize,
-) -> Outcome
-    ensures { λ r. ⌜
-        outcomeSaid r ≡ roomSaid (asked (now (text .entry)) (now (pattern .entry)) s) (rooms links counts flags) ⌝ }
-{
-    let rows = s.rows;
-    let columns = s.columns;
-    let height = s.height;
-    let width = s.width;
-    let outcome = question_outcome(text, pattern, s);
-    let Outcome::Accepted = outcome else {
-        return outcome;
-    };
-    if links < rows * width {
-        return Outcome::Refused(Refusal::Plain(Reason::LinksBufferShort));
-    }
-    let windows = (rows + 1 - height) * (columns + 1 - width);
-    if counts < windows {
-        return Outcome::Refused(Refusal::Plain(Reason::WindowBufferShort));
-    }
-    if flags < windows {
-        return Outcome::Refused(Refusal::Plain(Reason::WindowBufferShort));
-    }
-    Outcome::Accepted
 }
 
 // The search where nothing but the listing's room is left to ask: first the flags, then, where there is room for it,

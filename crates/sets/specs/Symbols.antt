@@ -3,9 +3,9 @@
 pub mod Words
 pub mod Blocks
 pub mod Patterns
-pub mod Marking
 pub mod Taken
 pub mod Listed
+pub mod Marking
 use mathlib.Core.Path.{_≡_}
 use mathlib.Core.Bool.{Bool, true, false}
 use mathlib.Core.List.{List, [], _∷_}
@@ -15,7 +15,7 @@ use lib.ListN.{length, getD}
 use Rattle.theory.specs.Test.{pick}
 use Rattle.theory.specs.First.{first}
 use Rattle.theory.specs.Count.{count, members}
-use Rattle.grid.specs.Distinct.{contains}
+use Rattle.occurrences.specs.Distinct.{contains}
 use Rattle.sets.specs.declared.symbols.Symbols.{Symbols}
 
 -- bit k of a word is 1

@@ -1,2 +1,2 @@
-// The lower library's third part: sets of symbols.
+// Of the lower library: sets of symbols.
 pub mod symbols;

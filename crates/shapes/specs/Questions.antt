@@ -8,7 +8,7 @@ use Prim.Native.Nat.{ℕ, _*_}
 use lib.ListN.{length}
 use Rattle.shapes.specs.declared.shapes.Shape.{Shape}
 use Rattle.shapes.specs.Shapes.{goodSides, goodCells, fits, windows, corners, Shaped}
-use Rattle.shapes.specs.Said.{Said, _then_, check}
+use Rattle.refusals.specs.Said.{Said, _then_, check}
 
 -- cells row by row, with the sides that are given for them
 pub record Grid : Type 0 where

@@ -3,13 +3,13 @@ ghost use mathlib.Core.Path.{_≡_};
 ghost use Prim.Native.Nat.{_+_};
 ghost use lib.Dec.{leb};
 ghost use Rattle.shapes.specs.Shapes.{goodSide, goodSides, goodCells, fits, cornerInside};
-ghost use Rattle.shapes.specs.Said.{outcomeSaid};
+ghost use Rattle.refusals.specs.Said.{outcomeSaid};
 ghost use Rattle.shapes.specs.Questions.{gridOf, asked, sidesSaid, gridSaid, cellsSaid, sizeSaid, shapeSaid};
 ghost use Rattle.shapes.specs.Questions.{textSaid};
-use crate::refusals::Outcome;
-use crate::refusals::Reason;
-use crate::refusals::Refusal;
-use crate::refusals::outcome_then;
+use refusals::refusals::Outcome;
+use refusals::refusals::Reason;
+use refusals::refusals::Refusal;
+use refusals::refusals::outcome_then;
 
 // The sides of a text and of a window in it.
 pub struct Shape {

@@ -12,11 +12,11 @@ use lib.ListN.{length, getD}
 use Rattle.theory.specs.Test.{pick}
 use Rattle.theory.specs.Match.{firstEnd}
 use Rattle.shapes.specs.Shapes.{ShapeOf, across, down}
-use Rattle.shapes.specs.Windows.{stripAt}
+use Rattle.cells.specs.Windows.{stripAt}
 use Rattle.shapes.specs.declared.shapes.Shape.{Shape}
 use Rattle.prefixes.specs.Prefixes.{suffix}
 use Rattle.prefixes.specs.State.{FirstPlaces}
-use Rattle.sieve.specs.Pairs.{AlikePairs}
+use Rattle.alike.specs.Pairs.{AlikePairs}
 
 -- What the inner functions' contracts cite.
 

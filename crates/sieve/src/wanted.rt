@@ -5,12 +5,11 @@ ghost use mathlib.Core.Bool.{false};
 ghost use Prim.Native.Nat.{_+_, _*_, _≤_, _<_};
 ghost use lib.ListN.{length};
 ghost use Rattle.shapes.specs.Shapes.{across, down};
-ghost use Rattle.sieve.specs.Pairs.{AlikePairs};
 ghost use Rattle.sieve.specs.Sieve.{Differs, RowsTo, RowsFrom, RowsAsked, firstRows};
-use crate::pairs::pairs_alike;
+use alike::pairs::pairs_alike;
 use grid::strips::Strip;
-use reach::places::no_positions;
 use reach::reach::reach;
+use rows::places::no_positions;
 use shapes::shapes::Shape;
 
 // As many first rows as have sixteen cells and one more, or all where there are fewer: a first row that is constant, a

@@ -25,7 +25,7 @@ use lib.Dec.{ltb}
 use Rattle.theory.specs.Test.{pick}
 use Rattle.theory.specs.Match.{firstEnd}
 use Rattle.shapes.specs.Shapes.{ShapeOf, across, down}
-use Rattle.shapes.specs.Windows.{windowAt, cornerRow, cornerColumn}
+use Rattle.cells.specs.Windows.{windowAt, cornerRow, cornerColumn}
 use Rattle.shapes.specs.declared.shapes.Shape.{Shape}
 
 -- the first end of window k
@@ -51,8 +51,8 @@ pub record RunAt (text : List ℕ) (s : Strip) (pattern last : List ℕ) (row re
   pub swept : Swept (λ k. getD pattern k 0) (stripSymbols text s) (row * s .width) reached last
 
 -- what the pattern's own window d places down says
-abbrev pub SelfIs : List ℕ → ℕ → ℕ → ℕ → Type 0
-SelfIs pattern d end earlier =
+abbrev pub OwnEndIs : List ℕ → ℕ → ℕ → ℕ → Type 0
+OwnEndIs pattern d end earlier =
     EndIs (λ k. getD pattern k 0) (suffix (λ k. getD pattern k 0) d) (length pattern - d) end earlier
 
 -- what is asked of the next window
@@ -65,7 +65,7 @@ pub record NextAt (text : List ℕ) (s : Strip) (pattern first last selves earli
   pub run : RunAt text s pattern last row reached top height
   pub selves-long : length selves ≡ 256
   pub earlies-long : length earlies ≡ 256
-  pub self : top * s .width < reached → SelfIs pattern ((top - row) * s .width) (getD selves (top - row) 0)
+  pub self : top * s .width < reached → OwnEndIs pattern ((top - row) * s .width) (getD selves (top - row) 0)
       (getD earlies (top - row) 0)
 
 -- its first end, and where the run stands then
@@ -85,10 +85,10 @@ pub record SidesOf (pattern : List ℕ) (height width : ℕ) : Type 0 where
   pub width-le : width ≤ 255
 
 -- the first ends and earlier positions of the pattern's own windows from row 0 to before row n
-pub record Owns (pattern : List ℕ) (width n : ℕ) (selves earlies : List ℕ) : Type 0 where
+pub record OwnMismatches (pattern : List ℕ) (width n : ℕ) (selves earlies : List ℕ) : Type 0 where
   pub selves-long : length selves ≡ 256
   pub earlies-long : length earlies ≡ 256
-  pub each : (k : ℕ) → k < n → SelfIs pattern (k * width) (getD selves k 0) (getD earlies k 0)
+  pub each : (k : ℕ) → k < n → OwnEndIs pattern (k * width) (getD selves k 0) (getD earlies k 0)
 
 -- how many of them a strip of so many windows asks for
 unfoldable pub ownRows : ℕ → ℕ → ℕ
@@ -99,4 +99,4 @@ pub record SweepAt (text : List ℕ) (s : Shape) (pattern first selves earlies :
   pub shape : ShapeOf s (length text)
   pub cells : length pattern ≡ s .height * s .width
   pub places : FirstPlaces (λ k. getD pattern k 0) (length pattern) first
-  pub owns : Owns pattern (s .width) (ownRows (s .height) (down s)) selves earlies
+  pub owns : OwnMismatches pattern (s .width) (ownRows (s .height) (down s)) selves earlies

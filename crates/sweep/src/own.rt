@@ -3,10 +3,10 @@ ghost use mathlib.Core.Path.{_≡_};
 ghost use Prim.Native.Nat.{_-_, _≤_, _<_};
 ghost use lib.ListN.{length, getD};
 ghost use Rattle.prefixes.specs.State.{FirstPlaces};
-ghost use Rattle.sweep.specs.Sweep.{SidesOf, Owns, ownRows};
+ghost use Rattle.sweep.specs.Sweep.{SidesOf, OwnMismatches, ownRows};
 use crate::steps::next_end;
 use grid::strips::Strip;
-use reach::places::no_positions;
+use rows::places::no_positions;
 
 // How many of the pattern's own windows are asked for: the pattern has one for each row, and in a strip of so many
 // windows the last is fewer rows below the first.
@@ -34,7 +34,7 @@ pub fn own_ends(
         SidesOf (now pattern) height width
         × FirstPlaces (λ k. getD (now pattern) k 0) (length (now pattern)) (now first)
         × (length (now selves) ≡ 256) × (length (now earlies) ≡ 256) × (n ≤ height) ⌝ }
-    ensures { λ r. ⌜ Owns (now (pattern .entry)) width n (now (selves .exit)) (now (earlies .exit)) ⌝ }
+    ensures { λ r. ⌜ OwnMismatches (now (pattern .entry)) width n (now (selves .exit)) (now (earlies .exit)) ⌝ }
 {
     let s = Strip {
         rows: height,

@@ -4,7 +4,7 @@
 pub mod Laws
 use Prim.Native.Nat.{ℕ}
 use mathlib.Core.List.{List, [], _∷_}
-use Rattle.shapes.specs.Said.{Said, accepts, refuses, saidValues, newBy}
+use Rattle.refusals.specs.Said.{Said, accepts, refuses, saidValues, newBy}
 use Rattle.shapes.specs.Questions.{Question}
 use Rattle.matching.specs.Compare.{verdictSaid, bijectionAt, windowSaid}
 use Rattle.matching.specs.declared.compare.Verdict.{Verdict}

@@ -1,6 +1,3 @@
 pub mod Bijections
 pub mod Compare
-pub mod Reader
-pub mod Returned
 pub mod Symbols
-pub mod Theorems

@@ -1,11 +1,11 @@
 // Bijections as two columns, in which 256 stands for no image and no preimage.
 ghost use mathlib.Core.Path.{_≡_};
-ghost use Rattle.shapes.specs.Said.{saidNumber};
+ghost use Rattle.refusals.specs.Said.{saidNumber};
 ghost use Rattle.mapping.specs.Bijections.{renamed};
 ghost use Rattle.values.specs.Bijections.{fromColumns};
 use mapping::bijections::Bijection;
 use mapping::bijections::BijectionAnswer;
-use shapes::refusals::outcome_number;
+use refusals::refusals::outcome_number;
 
 // The bijection that two columns hold.
 pub fn bijection_in(forward: &[u16; 256], backward: &[u16; 256]) -> Bijection

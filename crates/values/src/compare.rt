@@ -1,11 +1,11 @@
 // What the one-window question answers, in numbers.
 ghost use mathlib.Core.Path.{_≡_};
-ghost use Rattle.shapes.specs.Said.{saidNumber, saidValues};
+ghost use Rattle.refusals.specs.Said.{saidNumber, saidValues};
 ghost use Rattle.matching.specs.Compare.{verdictSaid};
 ghost use Rattle.matching.specs.declared.compare.Verdict.the-variants.{Mismatch};
 ghost use Rattle.values.specs.Compare.{mismatchOf};
 use matching::compare::Verdict;
-use shapes::refusals::refusal_number;
+use refusals::refusals::refusal_number;
 
 // The number of a verdict.
 pub fn verdict_number(verdict: Verdict) -> u8

@@ -1,5 +1,2 @@
-pub mod Check
-pub mod Rules
-pub mod Entries
 pub mod Windows
-pub mod Theorems
+pub mod Answers

@@ -16,18 +16,18 @@ use Rattle.theory.specs.Count.Laws.{count-le}
 use Rattle.shapes.specs.Shapes.{ShapeOf, across, down}
 use Rattle.shapes.specs.declared.shapes.Shape.{Shape}
 use Rattle.shapes.specs.Questions.{Question, windowsOf}
-use Rattle.shapes.specs.declared.refusals.Refusal.{Refusal}
+use Rattle.refusals.specs.declared.refusals.Refusal.{Refusal}
 use Rattle.matching.specs.Compare.{Placed, cellCount}
 use Rattle.matching.specs.Windows.{windowPlace}
 use Rattle.matching.specs.Windows.Laws.{placed-window}
-use Rattle.shapes.specs.declared.windows.WindowPlace.{WindowPlace}
+use Rattle.cells.specs.declared.windows.WindowPlace.{WindowPlace}
 use Rattle.sweep.specs.Sweep.{SidesOf}
-use Rattle.carrying.specs.Inheritance.{CheckTables}
-use Rattle.carrying.specs.Offsets.Laws.{prepared-none}
+use Rattle.inheriting.specs.Inheritance.{CheckTables}
+use Rattle.inheriting.specs.Offsets.Laws.{prepared-none}
 use Rattle.claims.specs.declared.walks.Walk.{Walk}
 use Rattle.claims.specs.declared.walks.Walk.the-variants.{Goes, Stops}
-use Rattle.verify.specs.Check.{entryFrom, placeIn, windowsTo, standsFound, foundTo}
-use Rattle.verify.specs.Entries.{goes-found}
+use Rattle.rules.specs.Check.{entryFrom, placeIn, windowsTo, standsFound, foundTo}
+use Rattle.rules.specs.Entries.{goes-found}
 use Rattle.verify.specs.declared.windows.Walked.{Walked}
 use Rattle.verify.specs.declared.windows.Walked.the-variants.{Passed, Stopped}
 

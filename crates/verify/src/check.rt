@@ -3,52 +3,15 @@
 ghost use mathlib.Core.Path.{_≡_};
 ghost use Rattle.theory.specs.Bytes.{Bytes};
 ghost use Rattle.shapes.specs.Questions.{Posed, ask, asked};
-ghost use Rattle.verify.specs.Check.{closingFrom, checkedSaid, listingSaid, checkOf};
+ghost use Rattle.rules.specs.Check.{checkedSaid, listingSaid, checkOf};
 use crate::windows::Walked;
-use crate::windows::read_windows;
+use crate::windows::check_windows;
 use claims::walks::Walk;
-use listing::reader::Cursor;
-use listing::reader::Read;
-use listing::records::Record;
-use shapes::refusals::Outcome;
-use shapes::refusals::Refusal;
+use refusals::refusals::Outcome;
+use rules::checked::Checked;
+use rules::closing::check_closing;
 use shapes::shapes::Shape;
 use shapes::shapes::question_outcome;
-
-// What the check answers.
-pub enum Checked {
-    // the listing keeps the rules: so many windows stand as found, and so many as refused
-    Kept { found: u16, refused: u16 },
-    Refused(Refusal),
-}
-
-// The closing at a place, with these counts, and behind it the end.
-fn read_closing(listing: &[u8], found: u16, refused: u16, at: usize) -> Walk
-    ensures { λ r. ⌜ r ≡ closingFrom (now (listing .entry)) found refused at ⌝ }
-{
-    let cursor = Cursor { at };
-    let Read::Whole(item, next) = cursor.read(listing) else {
-        return Walk::Stops(Refusal::ListingForm(at));
-    };
-    let Record::Closing {
-        found: a,
-        refused: b,
-    } = item
-    else {
-        return Walk::Stops(Refusal::ListingForm(at));
-    };
-    if a != found {
-        return Walk::Stops(Refusal::ListingFalse(at));
-    }
-    if b != refused {
-        return Walk::Stops(Refusal::ListingFalse(at));
-    }
-    let end = next.at;
-    if end != listing.len() {
-        return Walk::Stops(Refusal::ListingForm(end));
-    }
-    Walk::Goes(end)
-}
 
 // The check where sides and cells are good.
 fn check_listing(text: &[u8], pattern: &[u8], s: Shape, listing: &[u8]) -> Checked
@@ -56,13 +19,13 @@ fn check_listing(text: &[u8], pattern: &[u8], s: Shape, listing: &[u8]) -> Check
     ensures { λ r. ⌜
         checkedSaid r ≡ listingSaid (asked (now (text .entry)) (now (pattern .entry)) s) (now (listing .entry)) ⌝ }
 {
-    let walked = read_windows(text, pattern, s, listing);
+    let walked = check_windows(text, pattern, s, listing);
     match walked {
         Walked::Stopped(why) => Checked::Refused(why),
         Walked::Passed { at, found } => {
             let windows = (s.rows + 1 - s.height) * (s.columns + 1 - s.width);
             let refused = (windows - found as usize) as u16;
-            let last = read_closing(listing, found, refused, at);
+            let last = check_closing(listing, found, refused, at);
             match last {
                 Walk::Stops(why) => Checked::Refused(why),
                 Walk::Goes(_) => Checked::Kept { found, refused },

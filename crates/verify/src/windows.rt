@@ -8,20 +8,20 @@ ghost use Rattle.theory.specs.Test.{pick};
 ghost use Rattle.shapes.specs.Shapes.{ShapeOf};
 ghost use Rattle.shapes.specs.Questions.{asked};
 ghost use Rattle.sets.specs.Symbols.{symbolsOf};
-ghost use Rattle.carrying.specs.Inheritance.{CheckTables};
+ghost use Rattle.inheriting.specs.Inheritance.{CheckTables};
 ghost use Rattle.verify.specs.Windows.{WindowsWalked};
-use crate::entries::read_entry;
-use carrying::offsets::unmade_offsets;
+use cells::windows::WindowPlace;
 use claims::walks::Walk;
+use inheriting::offsets::unmade_offsets;
+use judging::entries::check_entry;
+use marking::marks::symbol_set;
 use matching::windows::next_window;
-use reach::places::no_positions;
+use refusals::refusals::Refusal;
+use rows::places::no_positions;
 use sets::symbols::list_symbols;
-use sets::symbols::symbols_of;
-use shapes::refusals::Refusal;
 use shapes::shapes::Shape;
 use shapes::tables::no_entries;
 use shapes::tables::no_symbols;
-use shapes::windows::WindowPlace;
 
 // Where the windows end, and how many of them stand as found; or the first bad record.
 pub enum Walked {
@@ -30,7 +30,7 @@ pub enum Walked {
 }
 
 // The windows found so far, and one more where a found record stands.
-fn count_found(found: u16, kind: u8) -> u16
+fn found_after(found: u16, kind: u8) -> u16
     requires { ⌜ found < 65535 ⌝ }
     ensures { λ r. ⌜ r ≡ pick (eqb kind 1) (found + 1) found ⌝ }
 {
@@ -55,7 +55,8 @@ fn walk_windows(
     requires { ⌜
         ShapeOf s (length (now text)) × (length (now pattern) ≡ s .height * s .width)
         × (now symbols ≡ symbolsOf (now pattern)) × Older 256 (now given)
-        × CheckTables (now text) (now pattern) (s .columns) (s .height) (s .width) (now offsets) (now selves) (now tops) ⌝ }
+        × CheckTables (now text) (now pattern) (s .columns) (s .height) (s .width) (now offsets) (now selves)
+        (now tops) ⌝ }
     ensures { λ r. ⌜ WindowsWalked (asked (now (text .entry)) (now (pattern .entry)) s) (now (listing .entry)) r ⌝ }
 {
     let across = s.columns + 1 - s.width;
@@ -72,7 +73,7 @@ fn walk_windows(
     let mut found = 0u16;
     let mut k = 0;
     while k < n {
-        let step = read_entry(
+        let step = check_entry(
             text,
             v,
             pattern,
@@ -90,7 +91,7 @@ fn walk_windows(
                 return Walked::Stopped(why);
             }
             Walk::Goes(next) => {
-                found = count_found(found, listing[at]);
+                found = found_after(found, listing[at]);
                 at = next;
             }
         }
@@ -103,11 +104,11 @@ fn walk_windows(
 
 // The records of every window, from the listing's first byte. The pattern's symbols are listed once, and not again for
 // each window; nothing else is prepared before a found record asks for it.
-pub fn read_windows(text: &[u8], pattern: &[u8], s: Shape, listing: &[u8]) -> Walked
+pub fn check_windows(text: &[u8], pattern: &[u8], s: Shape, listing: &[u8]) -> Walked
     requires { ⌜ ShapeOf s (length (now text)) × (length (now pattern) ≡ s .height * s .width) ⌝ }
     ensures { λ r. ⌜ WindowsWalked (asked (now (text .entry)) (now (pattern .entry)) s) (now (listing .entry)) r ⌝ }
 {
-    let set = symbols_of(pattern);
+    let set = symbol_set(pattern);
     let mut listed = no_symbols();
     let d = list_symbols(set, &mut listed);
     let mut given = no_entries();

@@ -4,7 +4,7 @@
 // functions with plain parameters, so that no caller needs a walk.
 ghost use mathlib.Core.Path.{_≡_};
 ghost use Prim.Native.Nat.{_+_};
-ghost use Rattle.shapes.specs.Windows.{rowCells, windowAt};
+ghost use Rattle.cells.specs.Windows.{rowCells, windowAt};
 ghost use Rattle.view.specs.Inside.{RowInside, CellInside};
 
 // Where a window of a text is read: its rows are parts of the text, columns apart, and the first one begins at the

@@ -3,19 +3,19 @@ ghost use mathlib.Core.Path.{_≡_};
 ghost use Prim.Native.Nat.{_+_, _*_, _≤_};
 ghost use lib.ListN.{length};
 ghost use Rattle.shapes.specs.Questions.{asked};
-ghost use Rattle.shapes.specs.Said.{overFront};
+ghost use Rattle.refusals.specs.Said.{overFront};
 ghost use Rattle.theory.specs.Written.{written};
 ghost use Rattle.prefixes.specs.State.{FirstPlaces};
 ghost use Rattle.sets.specs.Symbols.{symbolsOf};
 ghost use Rattle.matching.specs.Compare.{patternAt};
-ghost use Rattle.writer.specs.Listing.{searchListing, foundIn, refusedIn};
-ghost use Rattle.writer.specs.Listing.Windows.{Flagged, windowBytes};
-use crate::found::write_rows;
-use crate::offsets::list_offsets;
-use crate::strips::write_strips;
+ghost use Rattle.entries.specs.Listing.{searchListing, foundIn, refusedIn};
+ghost use Rattle.passes.specs.Windows.{Flagged, windowBytes};
+use entries::offsets::list_offsets;
 use listing::records::Record;
 use listing::records::write_record;
-use reach::places::no_positions;
+use passes::found::write_rows;
+use passes::strips::write_strips;
+use rows::places::no_positions;
 use shapes::shapes::Shape;
 
 // The records of all windows, from the listing's first byte on; the place after them. First those of the found ones in

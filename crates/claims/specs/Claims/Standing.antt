@@ -11,15 +11,15 @@ use lib.ListN.{length, getD, drop}
 use lib.Seq.{getD-take, getD-drop}
 use Rattle.theory.specs.Test.{Tested}
 use Rattle.theory.specs.Test.Laws.{eq-tested, both-tested, is-true, is-false, says-true}
-use Rattle.shapes.specs.declared.refusals.Refusal.{Refusal}
+use Rattle.refusals.specs.declared.refusals.Refusal.{Refusal}
 use Rattle.listing.specs.Records.{bytesOf, kindSize}
-use Rattle.listing.specs.Reader.{readSaid, cursorSaid}
-use Rattle.listing.specs.Reader.Reading.{HasRecord, whole-tested}
-use Rattle.listing.specs.Reader.Answers.{WholeAt, read-whole, refused-none}
-use Rattle.listing.specs.Reader.RoundTrip.{bytes-some, size-is}
+use Rattle.reading.specs.Reader.{readSaid, cursorSaid}
+use Rattle.reading.specs.Reader.Reading.{HasRecord, whole-tested}
+use Rattle.reading.specs.Reader.Answers.{WholeAt, read-whole, refused-none}
+use Rattle.reading.specs.Reader.RoundTrip.{bytes-some, size-is}
 use Rattle.listing.specs.declared.records.Record.{Record}
-use Rattle.listing.specs.declared.reader.Cursor.{Cursor}
-use Rattle.listing.specs.declared.reader.Read.the-variants.{Whole, Refused}
+use Rattle.reading.specs.declared.reader.Cursor.{Cursor}
+use Rattle.reading.specs.declared.reader.Read.the-variants.{Whole, Refused}
 use Rattle.claims.specs.Claims.{byteAt, stands}
 
 module _ (listing : List ℕ) (at : ℕ) where

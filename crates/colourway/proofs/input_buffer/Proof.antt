@@ -3,7 +3,7 @@
 use lib.ListN.{replicate, length-replicate}
 use mathlib.Core.Path.{sym}
 use Prim.Native.Nat.{ℕ}
-use Rattle.colourway.specs.Theorems.{long-enough}
+use Rattle.program.specs.Theorems.{long-enough}
 use Rattle.colourway.proofs.input_buffer.Statement.{statement}
 use Rattle.colourway.proofs.input_buffer.Tie as tie
 

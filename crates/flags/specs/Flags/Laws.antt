@@ -17,9 +17,9 @@ use Rattle.theory.specs.Match.{Matches, Answer, matched, mismatched, isMatch, a
 use Rattle.theory.specs.Match.Answers.{match-iff}
 use Rattle.shapes.specs.Questions.{Question, acrossOf}
 use Rattle.shapes.specs.Shapes.Laws.{product-le}
-use Rattle.shapes.specs.Windows.{windowAt}
-use Rattle.shapes.specs.Windows.Laws.{corner-row, corner-column}
-use Rattle.grid.specs.Distinct.{distinct}
+use Rattle.cells.specs.Windows.{windowAt}
+use Rattle.cells.specs.Windows.Laws.{corner-row, corner-column}
+use Rattle.occurrences.specs.Distinct.{distinct}
 use Rattle.grid.specs.Strips.{link}
 use Rattle.shapes.specs.Shapes.{ShapeOf}
 use Rattle.shapes.specs.declared.shapes.Shape.{Shape}

@@ -16,10 +16,10 @@ use Rattle.theory.specs.Older.{Older}
 use Rattle.theory.specs.Store.{stored}
 use Rattle.theory.specs.Store.Laws.{stored-ext}
 use Rattle.shapes.specs.Shapes.{ShapeOf, across, down}
-use Rattle.shapes.specs.Windows.{stripAt}
-use Rattle.shapes.specs.Windows.Laws.{corner-row}
+use Rattle.cells.specs.Windows.{stripAt}
+use Rattle.cells.specs.Windows.Laws.{corner-row}
 use Rattle.shapes.specs.declared.shapes.Shape.{Shape}
-use Rattle.grid.specs.Distinct.{distinct}
+use Rattle.occurrences.specs.Distinct.{distinct}
 use Rattle.grid.specs.Strips.{stripFrom}
 use Rattle.prefixes.specs.Prefixes.{suffix}
 use Rattle.reach.specs.Reach.{Reached}
@@ -27,8 +27,8 @@ use Rattle.reach.specs.declared.reach.Far.{Far}
 use Rattle.grid.specs.declared.strips.Strip.{Strip}
 use Rattle.sieve.specs.Sieve.{Differs, RowsTo, RowsFrom, StripAsked}
 use Rattle.flags.specs.Flags.Strips.{flagOf, CountsAre, end-flag-here, end-strip-flag}
-use Rattle.flags.specs.Flags.Run.{flagByEnd}
-use Rattle.flags.specs.Flags.Run.Laws.{by-end, by-count}
+use Rattle.linked.specs.Run.{flagByEnd}
+use Rattle.linked.specs.Run.Laws.{by-end, by-count}
 
 -- the flags of a strip's windows are written: that of the window at row top, if there is one, and 0 for the others
 pub record LoneWritten (text pattern : List ℕ) (s : Shape) (left top : ℕ) (old new : List ℕ) : Type 0 where

@@ -11,19 +11,19 @@ use Rattle.theory.specs.Table.{table}
 use Rattle.theory.specs.Table.Laws.{table-is}
 use Rattle.theory.specs.Match.{isMatch, answerOf, Answer, matched, mismatched, firstEnd}
 use Rattle.shapes.specs.Questions.{asked}
-use Rattle.shapes.specs.Windows.{windowAt, windowCells, stripAt}
-use Rattle.shapes.specs.Windows.Laws.{window-strip, cells-table, corner-row, corner-column}
-use Rattle.grid.specs.Distinct.{distinct}
+use Rattle.cells.specs.Windows.{windowAt, windowCells, stripAt}
+use Rattle.cells.specs.Windows.Laws.{window-strip, cells-table, corner-row, corner-column}
+use Rattle.occurrences.specs.Distinct.{distinct}
 use Rattle.grid.specs.Strips.{link, stripFrom}
 use Rattle.shapes.specs.Shapes.{ShapeOf, across, down}
-use Rattle.grid.specs.Counts.{countOf}
-use Rattle.grid.specs.Counts.Laws.{window-count, place-lt}
+use Rattle.counts.specs.Counts.{countOf}
+use Rattle.counts.specs.Counts.Laws.{window-count, place-lt}
 use Rattle.shapes.specs.declared.shapes.Shape.{Shape}
 use Rattle.matching.specs.Compare.{patternAt}
 use Rattle.flags.specs.Flags.{Room, windowFlag, flagBy}
 use Rattle.flags.specs.Flags.Laws.{flag-right, flag-unequal}
-use Rattle.flags.specs.Flags.Run.{flagByEnd}
-use Rattle.flags.specs.Flags.Run.Laws.{by-end, by-count}
+use Rattle.linked.specs.Run.{flagByEnd}
+use Rattle.linked.specs.Run.Laws.{by-end, by-count}
 use Rattle.prefixes.specs.Prefixes.{suffix, firstEarlier}
 use Rattle.prefixes.specs.Prefixes.Ends.{answer-of}
 use Rattle.reach.specs.Reach.Laws.{window-suffix}

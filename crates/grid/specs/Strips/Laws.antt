@@ -1,27 +1,51 @@
 -- What the links operation refuses and what it leaves, for its callers: the chain 2, 3, 4, 5, 9 taken apart from its
--- front.
+-- front. And that a strip of a text of good shape is one.
 -- Assumes nothing.
 use mathlib.Core.Path.{_≡_, sym, _∙_, ap}
 use mathlib.Core.Bool.{true, false}
 use mathlib.Core.List.{List, [], _++_}
 use Prim.Native.Nat.{ℕ, _≤_, _<_}
+use native.Mathlib.Omega.{arith}
 use lib.Dec.{leb}
 use lib.ListN.{length, drop}
 use borrow.Author.Tests.{le-leb, lt-leb}
 use Rattle.theory.specs.Test.Laws.{le-tested, says-true}
 use Rattle.theory.specs.Table.{table}
 use Rattle.theory.specs.Table.Laws.{length-table}
-use Rattle.shapes.specs.Said.{accepts, refuses, _then_, check, outcomeSaid, filled}
-use Rattle.shapes.specs.Said.Laws.{then-stopped, then-both, check-passed, check-true, filled-kept, filled-new}
+use Rattle.refusals.specs.Said.{accepts, refuses, _then_, check, outcomeSaid, filled}
+use Rattle.refusals.specs.Said.Laws.{then-stopped, then-both, check-passed, check-true, filled-kept, filled-new}
 use Rattle.shapes.specs.Questions.{textSaid}
 use Rattle.shapes.specs.Questions.Laws.{text-shaped, text-said}
-use Rattle.shapes.specs.Shapes.{ShapeOf}
+use Rattle.shapes.specs.Shapes.{ShapeOf, across}
+use Rattle.shapes.specs.declared.shapes.Shape.{Shape}
 use Rattle.shapes.specs.Shapes.Laws.{corner-inside}
-use Rattle.shapes.specs.declared.refusals.Refusal.{Refusal}
-use Rattle.shapes.specs.declared.refusals.Outcome.{Outcome}
-use Rattle.shapes.specs.declared.refusals.Outcome.the-variants.{Accepted, Refused}
+use Rattle.refusals.specs.declared.refusals.Refusal.{Refusal}
+use Rattle.refusals.specs.declared.refusals.Outcome.{Outcome}
+use Rattle.refusals.specs.declared.refusals.Outcome.the-variants.{Accepted, Refused}
 use Rattle.grid.specs.Strips.{link, stripSymbols, stripSize, stripSides, stripInside, linksSaid, linksOf, StripOf}
+use Rattle.grid.specs.Strips.{stripFrom}
 use Rattle.grid.specs.declared.strips.Strip.{Strip}
+
+-- the strip at a column of a text of good shape is a strip of the text, as tall as the text
+pub strip-of : (s : Shape) (left cells : ℕ) → ShapeOf s cells → left < across s
+    → StripOf (stripFrom (s .rows) (s .columns) (s .width) left) cells
+strip-of s left cells of beside =
+    let z = of .sized in
+    record {
+      shape = record {
+        sized = record {
+          sides = record {
+            rows-good = z .sides .rows-good;
+            columns-good = z .sides .columns-good;
+            height-good = z .sides .rows-good;
+            width-good = z .sides .width-good;
+          };
+          fitting = record { height-le = omega arith; width-le = z .fitting .width-le };
+        };
+        cells-is = of .cells-is;
+      };
+      inside = omega (arith, z .fitting .width-le);
+    }
 
 module _ (text : List ℕ) (t : Strip) (room : ℕ) where
   -- 2, 3, 4 are refused as everywhere

@@ -14,11 +14,11 @@ use borrow.Author.Tests.{ne-eqb}
 use Rattle.theory.specs.Test.{pick}
 use Rattle.theory.specs.Store.{stored, storedRows, Covers}
 use Rattle.theory.specs.Store.Laws.{stored-none, stored-more, rows-more, rows-all}
-use Rattle.shapes.specs.declared.refusals.Outcome.the-variants.{Accepted}
+use Rattle.refusals.specs.declared.refusals.Outcome.the-variants.{Accepted}
 use Rattle.shapes.specs.Shapes.Laws.{product-le}
-use Rattle.shapes.specs.Windows.{rowCells}
-use Rattle.shapes.specs.Windows.Laws.{row-inside, length-row, row-at, window-strip}
-use Rattle.shapes.specs.Said.{accepts, filled}
+use Rattle.cells.specs.Windows.{rowCells}
+use Rattle.cells.specs.Windows.Laws.{row-inside, length-row, row-at, window-strip}
+use Rattle.refusals.specs.Said.{accepts, filled}
 use Rattle.grid.specs.Strips.{link, linksSaid, stripSymbols, StripOf, Latest, never, latest, linksOf, stripSize}
 use Rattle.grid.specs.Strips.{LastPlaces, RowFrom, Linkable, LinkedRow}
 use Rattle.grid.specs.Strips.Laws.{links-passed, links-new}

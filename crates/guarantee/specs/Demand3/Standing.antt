@@ -22,18 +22,18 @@ use Rattle.theory.specs.Match.Answers.{no-mismatch-iff}
 use Rattle.theory.specs.Bytes.{Bytes}
 use Rattle.shapes.specs.Shapes.{corners}
 use Rattle.shapes.specs.Questions.{Question, acrossOf, windowsOf}
-use Rattle.shapes.specs.Windows.{cornerRow, cornerColumn}
-use Rattle.shapes.specs.Windows.Laws.{corner-row, corner-column}
+use Rattle.cells.specs.Windows.{cornerRow, cornerColumn}
+use Rattle.cells.specs.Windows.Laws.{corner-row, corner-column}
 use Rattle.sets.specs.Symbols.{symbolsOf}
-use Rattle.grid.specs.Distinct.{contains, distinct}
-use Rattle.grid.specs.Distinct.Sets.{distinct-count}
+use Rattle.occurrences.specs.Distinct.{contains, distinct}
+use Rattle.occurrences.specs.Distinct.Sets.{distinct-count}
 use Rattle.matching.specs.Compare.{patternOf, windowIn, positions, CornerIn, MatchesAt}
-use Rattle.verify.specs.Check.{placeIn}
+use Rattle.rules.specs.Check.{placeIn}
 use Rattle.listing.specs.Entries.{bytesAll, entryOf}
 use Rattle.listing.specs.Entries.Laws.{entry-found, entry-refused, right-pairs}
 use Rattle.listing.specs.declared.records.Record.{Record}
 use Rattle.listing.specs.declared.records.Record.the-variants.{Closing}
-use Rattle.verify.specs.Rules.{TrueOf, Entries, recordsAt, recordsTo, Keeps}
+use Rattle.rules.specs.Rules.{TrueOf, Entries, recordsAt, recordsTo, Keeps}
 use Rattle.guarantee.specs.Demand3.{namesFound, namesRefused, howMany, timesFound, timesRefused, Shown, as-found}
 use Rattle.guarantee.specs.Demand3.{as-refused, recordsOf, Shows}
 use Rattle.guarantee.specs.Demand3.Times.{many-append, many-joined, entry-times-found, entry-times-refused}

@@ -13,9 +13,9 @@ use borrow.Author.Tests.{le-leb, lt-leb}
 use Rattle.theory.specs.Test.{both, Tested}
 use Rattle.theory.specs.Test.Laws.{tested-iff, tested-same, le-tested, eq-tested, both-tested, says-true, is-true}
 use Rattle.theory.specs.Test.Laws.{is-false}
-use Rattle.shapes.specs.Said.{Said, accepts, refuses, _then_, check}
-use Rattle.shapes.specs.Said.Laws.{check-both, check-accepts, check-refuses, check-true, check-passed, then-both}
-use Rattle.shapes.specs.Said.Laws.{then-assoc}
+use Rattle.refusals.specs.Said.{Said, accepts, refuses, _then_, check}
+use Rattle.refusals.specs.Said.Laws.{check-both, check-accepts, check-refuses, check-true, check-passed, then-both}
+use Rattle.refusals.specs.Said.Laws.{then-assoc}
 use Rattle.shapes.specs.Questions.{gridGood, sidesOf, gridSaid, cellsSaid, sidesSaid, sizeSaid}
 use Rattle.shapes.specs.Questions.Laws.{sides-passed, sides-pass, size-passed, size-pass}
 use Rattle.shapes.specs.Shapes.Laws.{good-cells}

@@ -8,12 +8,12 @@ use Prim.Native.Nat.{ℕ, _+_, _*_, _≤_, _<_}
 use lib.Dec.{eqb, leb}
 use borrow.Author.Tests.{le-leb, lt-leb}
 use Rattle.theory.specs.Test.Laws.{says-true}
-use Rattle.shapes.specs.Said.{accepts, refuses, outcomeSaid}
-use Rattle.shapes.specs.Said.Laws.{then-stopped}
+use Rattle.refusals.specs.Said.{accepts, refuses, outcomeSaid}
+use Rattle.refusals.specs.Said.Laws.{then-stopped}
 use Rattle.shapes.specs.Questions.{fourSides, sidesSaid, sizeSaid}
-use Rattle.shapes.specs.declared.refusals.Refusal.{Refusal}
-use Rattle.shapes.specs.declared.refusals.Outcome.{Outcome}
-use Rattle.shapes.specs.declared.refusals.Outcome.the-variants.{Refused}
+use Rattle.refusals.specs.declared.refusals.Refusal.{Refusal}
+use Rattle.refusals.specs.declared.refusals.Outcome.{Outcome}
+use Rattle.refusals.specs.declared.refusals.Outcome.the-variants.{Refused}
 use Rattle.shapes.specs.Shapes.{goodSides, fits}
 use Rattle.shapes.specs.Shapes.Laws.{good-sides, product-le}
 use Rattle.input.specs.Input.{fewCells, countSaid, sizesSaid}

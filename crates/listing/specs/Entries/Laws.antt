@@ -13,8 +13,8 @@ use Rattle.theory.specs.Count.{Entry}
 use Rattle.theory.specs.Count.Laws.{members-iff, members-rising}
 use Rattle.theory.specs.Match.{Maps, matched, mismatched}
 use Rattle.sets.specs.Symbols.{symbolsOf}
-use Rattle.grid.specs.Distinct.{contains}
-use Rattle.grid.specs.Distinct.Sets.{contains-tested}
+use Rattle.occurrences.specs.Distinct.{contains}
+use Rattle.occurrences.specs.Distinct.Sets.{contains-tested}
 use Rattle.theory.specs.Test.{pick}
 use Rattle.listing.specs.Records.{bytesOf, mismatchBytes}
 use Rattle.listing.specs.declared.records.MismatchBody.{MismatchBody}

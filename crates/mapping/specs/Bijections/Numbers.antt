@@ -9,8 +9,8 @@ use Rattle.theory.specs.Test.{Tested}
 use Rattle.theory.specs.Test.Laws.{is-true, says-true}
 use Rattle.theory.specs.Columns.{Agree, Free, free}
 use Rattle.theory.specs.Columns.Agreement.{agree-tested, free-tested}
-use Rattle.shapes.specs.Said.{accepts, refuses, _then_, check}
-use Rattle.shapes.specs.Said.Laws.{check-passed, check-true}
+use Rattle.refusals.specs.Said.{accepts, refuses, _then_, check}
+use Rattle.refusals.specs.Said.Laws.{check-passed, check-true}
 use Rattle.mapping.specs.declared.bijections.Bijection.{Bijection}
 use Rattle.mapping.specs.Bijections.{goodColumns, paired, inverse, composite, pairSaid, pairOf, invertSaid}
 use Rattle.mapping.specs.Bijections.{invertOf, composeSaid, composeOf}

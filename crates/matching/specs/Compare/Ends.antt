@@ -1,4 +1,4 @@
--- A window against the pattern, row by row, with the step of reach: the window is a strip of its own, begun at place 0,
+-- A window against the pattern, row by row, with the step of rows: the window is a strip of its own, begun at place 0,
 -- so what a part of a row ensures of every strip, it ensures of the window.
 -- Assumes nothing.
 use mathlib.Core.Path.{_≡_, refl, _∙_, ap, fun-ext}
@@ -9,13 +9,13 @@ use native.Mathlib.Omega.{arith}
 use lib.ListN.{length, getD, replicate, take, drop}
 use Rattle.theory.specs.Older.Laws.{older-zeros}
 use Rattle.theory.specs.Match.{firstEnd}
-use Rattle.shapes.specs.Windows.Laws.{window-at}
-use Rattle.shapes.specs.declared.windows.WindowPlace.{WindowPlace}
+use Rattle.cells.specs.Windows.Laws.{window-at}
+use Rattle.cells.specs.declared.windows.WindowPlace.{WindowPlace}
 use Rattle.prefixes.specs.Prefixes.{suffix, EndIs}
 use Rattle.prefixes.specs.Prefixes.Ends.{ends-inside, ends-nowhere}
 use Rattle.prefixes.specs.State.{FirstPlaces, Swept, earlierBy}
 use Rattle.prefixes.specs.State.Laws.{swept-none, swept-found, swept-all, earlier-tells}
-use Rattle.reach.specs.Reach.{PartAt, PartMeets, EndsPart}
+use Rattle.rows.specs.Rows.{PartAt, PartMeets, EndsPart}
 use Rattle.matching.specs.Compare.{patternAt, windowOf, cellCount, Placed}
 use Rattle.matching.specs.Compare.Positions.{positions-small}
 use Rattle.matching.specs.Compare.Rows.{RowAt, rowStart, rows-behind, cells-fit, read-first, read-below}

@@ -9,7 +9,7 @@ use native.Mathlib.Nat.{div-add-mod', mul-add-div-right, mul-add-mod-self-right,
 use native.Mathlib.Omega.{arith}
 use Rattle.view.specs.Inside.{CellInside}
 use Rattle.matching.specs.Compare.{cellCount, Placed}
-use Rattle.shapes.specs.declared.windows.WindowPlace.{WindowPlace}
+use Rattle.cells.specs.declared.windows.WindowPlace.{WindowPlace}
 
 -- q rows of w and r cells more are position q w + r
 place-div : (w q r : ℕ) → r < w → (q * w + r) / w ≡ q

@@ -10,11 +10,11 @@ use native.Mathlib.Numerals.{add-one}
 use native.Mathlib.Omega.{arith}
 use lib.ListN.{length, getD, take, drop, length-take, length-drop}
 use lib.Seq.{getD-take, getD-drop}
-use Rattle.shapes.specs.Windows.{rowCells}
-use Rattle.shapes.specs.Windows.Laws.{row-cells-is, window-cell}
+use Rattle.cells.specs.Windows.{rowCells}
+use Rattle.cells.specs.Windows.Laws.{row-cells-is, window-cell}
 use Rattle.view.specs.Inside.{RowInside}
 use Rattle.matching.specs.Compare.{patternAt, windowOf, cellCount, Placed}
-use Rattle.shapes.specs.declared.windows.WindowPlace.{WindowPlace}
+use Rattle.cells.specs.declared.windows.WindowPlace.{WindowPlace}
 
 -- the part of a list that the code lends, from a place to n further on
 pub part-is : (l : List ℕ) (a n : ℕ) → take (a + n - a) (drop a l) ≡ take n (drop a l)

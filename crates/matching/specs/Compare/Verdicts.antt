@@ -12,11 +12,11 @@ use Rattle.theory.specs.Match.{firstEnd, matched, mismatched, mismatchEnding, a
 use Rattle.theory.specs.Match.Even.{earliest-le}
 use Rattle.prefixes.specs.Prefixes.{EndIs}
 use Rattle.prefixes.specs.Prefixes.Ends.{inside-earlier, answer-of}
-use Rattle.shapes.specs.Said.{accepts, outcomeSaid}
+use Rattle.refusals.specs.Said.{accepts, outcomeSaid}
 use Rattle.shapes.specs.Questions.{Question}
-use Rattle.shapes.specs.declared.refusals.Outcome.{Outcome}
-use Rattle.shapes.specs.declared.refusals.Outcome.the-variants.{Refused as RefusedOutcome}
-use Rattle.shapes.specs.declared.refusals.Refusal.{Refusal}
+use Rattle.refusals.specs.declared.refusals.Outcome.{Outcome}
+use Rattle.refusals.specs.declared.refusals.Outcome.the-variants.{Refused as RefusedOutcome}
+use Rattle.refusals.specs.declared.refusals.Refusal.{Refusal}
 use Rattle.mapping.specs.Bijections.{emptyBijection}
 use Rattle.matching.specs.Compare.{verdictOf, bijectionOf, bijectionAt, answerIn, placeSaid, windowSaid, told}
 use Rattle.matching.specs.Compare.{oneWindowOf, mismatchBetween}

@@ -12,7 +12,7 @@ use Rattle.shapes.specs.Shapes.Laws.{product-le}
 use Rattle.shapes.specs.declared.shapes.Shape.{Shape}
 use Rattle.matching.specs.Compare.{Placed}
 use Rattle.matching.specs.Compare.Positions.{next-div, next-mod, below-div, below-mod}
-use Rattle.shapes.specs.declared.windows.WindowPlace.{WindowPlace}
+use Rattle.cells.specs.declared.windows.WindowPlace.{WindowPlace}
 use Rattle.matching.specs.Windows.{windowPlace, SmallPlace}
 
 -- ---- from window to window

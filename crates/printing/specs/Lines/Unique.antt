@@ -10,8 +10,8 @@ use lib.ListN.{length, getD, take, drop, length-append, List·getD-append}
 use lib.Seq.{take-append-seam, drop-append-seam}
 use Rattle.listing.specs.Records.{bytesOf, kindSize}
 use Rattle.listing.specs.Entries.{bytesAll}
-use Rattle.listing.specs.Reader.Answers.{bytes-injective}
-use Rattle.listing.specs.Reader.RoundTrip.{bytes-some, size-is}
+use Rattle.reading.specs.Reader.Answers.{bytes-injective}
+use Rattle.reading.specs.Reader.RoundTrip.{bytes-some, size-is}
 use Rattle.listing.specs.declared.records.Record.{Record}
 
 -- two records that begin the same bytes

@@ -12,18 +12,18 @@ use lib.ListN.{length, getD, take, drop, set, length-append, length-drop, List·
 use lib.Seq.{drop-cons, drop-drop, getD-drop, take-append-seam, drop-append-seam}
 use Rattle.theory.specs.Written.{written, length-written, written-set}
 use Rattle.listing.specs.Records.{bytesOf, kindSize}
-use Rattle.shapes.specs.Said.{Said, saidValues}
-use Rattle.listing.specs.Reader.{sizeAt, readSaid, cursorSaid}
-use Rattle.listing.specs.Reader.Reading.{HasRecord, said-whole}
-use Rattle.listing.specs.Reader.Answers.{refused-none}
+use Rattle.refusals.specs.Said.{Said, saidValues}
+use Rattle.reading.specs.Reader.{sizeAt, readSaid, cursorSaid}
+use Rattle.reading.specs.Reader.Reading.{HasRecord, said-whole}
+use Rattle.reading.specs.Reader.Answers.{refused-none}
 use Rattle.listing.specs.Entries.{bytesAll}
-use Rattle.listing.specs.Reader.RoundTrip.{bytes-some, size-is}
+use Rattle.reading.specs.Reader.RoundTrip.{bytes-some, size-is}
 use Rattle.theory.specs.Pieces.{Left, left-all, left-room, left-less, left-none, left-long}
 use Rattle.listing.specs.declared.records.Record.{Record}
-use Rattle.listing.specs.declared.reader.Cursor.{Cursor}
-use Rattle.listing.specs.declared.reader.Read.{Read}
-use Rattle.listing.specs.declared.reader.Read.the-variants.{Whole, Refused}
-use Rattle.shapes.specs.declared.refusals.Refusal.{Refusal}
+use Rattle.reading.specs.declared.reader.Cursor.{Cursor}
+use Rattle.reading.specs.declared.reader.Read.{Read}
+use Rattle.reading.specs.declared.reader.Read.the-variants.{Whole, Refused}
+use Rattle.refusals.specs.declared.refusals.Refusal.{Refusal}
 use Rattle.printing.specs.Decimal.{decimal}
 use Rattle.printing.specs.Decimal.Laws.{at-most-three}
 use Rattle.printing.specs.Lines.{lineOf, linesOf, refusedWord, refusalLine, Recorded, Printed}

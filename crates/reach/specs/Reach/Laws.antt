@@ -10,15 +10,16 @@ use native.Mathlib.Numerals.{add-one}
 use native.Mathlib.Omega.{arith}
 use lib.ListN.{length, getD, take, drop, length-take, length-drop}
 use lib.Seq.{getD-take, getD-drop}
-use Rattle.shapes.specs.Windows.{windowAt}
-use Rattle.shapes.specs.Windows.Laws.{window-cell, window-strip}
+use Rattle.cells.specs.Windows.{windowAt}
+use Rattle.cells.specs.Windows.Laws.{window-cell, window-strip}
 use Rattle.shapes.specs.Shapes.Laws.{product-le}
 use Rattle.grid.specs.Strips.{stripSymbols}
 use Rattle.grid.specs.declared.strips.Strip.{Strip}
 use Rattle.prefixes.specs.Prefixes.Ends.{ends-inside, ends-nowhere}
 use Rattle.prefixes.specs.State.{Swept, earlierBy}
 use Rattle.prefixes.specs.State.Laws.{swept-found, swept-all, earlier-tells}
-use Rattle.reach.specs.Reach.{PartAt, PartMeets, EndsPart, ReachAt, Reached}
+use Rattle.reach.specs.Reach.{ReachAt, Reached}
+use Rattle.rows.specs.Rows.{PartAt, PartMeets, EndsPart}
 use Rattle.prefixes.specs.Prefixes.{suffix}
 
 -- the part of a list that the code lends, from a place to n further on

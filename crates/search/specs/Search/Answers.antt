@@ -6,15 +6,15 @@ use Prim.Native.Nat.{ℕ, _≤_, _<_}
 use native.Mathlib.Omega.{arith}
 use lib.ListN.{length}
 use borrow.Author.Tests.{le-leb, lt-leb}
-use Rattle.shapes.specs.Said.{overFront}
+use Rattle.refusals.specs.Said.{overFront}
 use Rattle.shapes.specs.Questions.{Question}
-use Rattle.shapes.specs.declared.refusals.Refusal.the-variants.{ListingBufferShort}
-use Rattle.flags.specs.Flags.{Work, marked}
-use Rattle.writer.specs.Listing.{foundIn, refusedIn, neededLength, searchListing}
+use Rattle.refusals.specs.declared.refusals.Refusal.the-variants.{ListingBufferShort}
+use Rattle.flags.specs.Flags.{Work, workAfter}
+use Rattle.entries.specs.Listing.{foundIn, refusedIn, neededLength, searchListing}
 use Rattle.search.specs.Search.{Lent, done, listedSaid, listedOf}
 use Rattle.search.specs.declared.search.Searched.the-variants.{Listed, Refused}
 
-module _ (q : Question) (l : Lent) (work : Work) (work-is : work ≡ marked q (l .work)) where
+module _ (q : Question) (l : Lent) (work : Work) (work-is : work ≡ workAfter q (l .work)) where
   -- no room for the listing
   pub says-short : (size : ℕ) → size ≡ neededLength q → length (l .listing) < size
       → done (Refused (ListingBufferShort size)) (record { work = work; listing = l .listing }) ≡ listedOf q l

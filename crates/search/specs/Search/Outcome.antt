@@ -8,8 +8,8 @@ use lib.ListN.{length, take, length-take}
 use Rattle.theory.specs.Bytes.{Bytes}
 use Rattle.shapes.specs.Questions.{Question}
 use Rattle.listing.specs.Entries.{bytesAll}
-use Rattle.writer.specs.Listing.{searchRecords, searchListing}
-use Rattle.writer.specs.Listing.Length.{length-listing}
+use Rattle.entries.specs.Listing.{searchRecords, searchListing}
+use Rattle.entries.specs.Listing.Length.{length-listing}
 use Rattle.search.specs.Search.{Lent, Done, done, searchOf}
 use Rattle.search.specs.Search.Accepted.{Lists, lists}
 use Rattle.search.specs.Theorems.{first-bytes}

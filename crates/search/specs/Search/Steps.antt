@@ -8,17 +8,17 @@ use native.Mathlib.Omega.{arith}
 use lib.ListN.{length, drop, getD, List·getD-append, length-append, length-drop}
 use Rattle.theory.specs.Table.{table}
 use Rattle.theory.specs.Table.Laws.{length-table, getD-table}
-use Rattle.shapes.specs.Said.{overFront}
+use Rattle.refusals.specs.Said.{overFront}
 use Rattle.shapes.specs.Questions.{Question, asked, windowsOf}
 use Rattle.shapes.specs.Shapes.{across, down}
-use Rattle.grid.specs.Distinct.{distinct}
+use Rattle.occurrences.specs.Distinct.{distinct}
 use Rattle.shapes.specs.declared.shapes.Shape.{Shape}
 use Rattle.flags.specs.Flags.Strips.{flagOf}
-use Rattle.flags.specs.Flags.{Room, Work, marked, windowFlag}
-use Rattle.writer.specs.Listing.{foundIn, refusedIn, listingLength, neededLength, searchListing}
-use Rattle.writer.specs.Listing.Totals.{ones, others, ones-found, others-refused}
-use Rattle.writer.specs.Listing.Length.{length-listing}
-use Rattle.writer.specs.Listing.Windows.{Flagged}
+use Rattle.flags.specs.Flags.{Room, Work, workAfter, windowFlag}
+use Rattle.entries.specs.Listing.{foundIn, refusedIn, listingLength, neededLength, searchListing}
+use Rattle.entries.specs.Listing.Totals.{ones, others, ones-found, others-refused}
+use Rattle.entries.specs.Listing.Length.{length-listing}
+use Rattle.passes.specs.Windows.{Flagged}
 
 -- the windows found and refused, and the length of their listing
 pub record Totalled (text pattern : List ℕ) (s : Shape) (found refused size : ℕ) : Type 0 where
@@ -27,10 +27,10 @@ pub record Totalled (text pattern : List ℕ) (s : Shape) (found refused size : 
   pub size-is : size ≡ neededLength (asked text pattern s)
 
 -- the flags among what the first step leaves
-pub marked-flags : (q : Question) (w after : Work) → after ≡ marked q w
+pub flags-after : (q : Question) (w after : Work) → after ≡ workAfter q w
     → after .flags ≡ overFront (table (windowFlag q) (windowsOf q)) (w .flags)
-unfolding marked
-marked-flags q w after e = ap (λ (v : Work). v .flags) e
+unfolding workAfter
+flags-after q w after e = ap (λ (v : Work). v .flags) e
 
 module _ (text pattern : List ℕ) (s : Shape) (links counts : ℕ) (flags after : List ℕ)
     (room : Room (length text) (length pattern) s links counts (length flags))

@@ -10,7 +10,7 @@ use lib.ListN.{length, set, take, drop, length-set, take-append-drop, length-app
 use lib.Seq.{take-suc-set, append-snoc, drop-set-lt, drop-drop, length-take-le, take-append-seam}
 use Rattle.theory.specs.Count.{members}
 use Rattle.theory.specs.Count.Laws.{length-members, count-le}
-use Rattle.shapes.specs.Said.{overFront}
+use Rattle.refusals.specs.Said.{overFront}
 use Rattle.sets.specs.declared.symbols.Symbols.{Symbols}
 use Rattle.sets.specs.Symbols.{has, lowestOf, withoutSymbol}
 use Rattle.sets.specs.Symbols.Taken.{members-lowest, members-over}

@@ -17,8 +17,8 @@ use Rattle.theory.specs.Test.{pick, both, Tested}
 use Rattle.theory.specs.Test.Laws.{pick-true, pick-false, eq-tested, lt-tested, both-tested}
 use Rattle.theory.specs.Test.Laws.{is-true, is-false, tested-same, tested-iff}
 use Rattle.theory.specs.Store.Laws.{set-right}
-use Rattle.grid.specs.Distinct.{contains}
-use Rattle.grid.specs.Distinct.Sets.{contains-none, contains-end, contains-tested}
+use Rattle.occurrences.specs.Distinct.{contains}
+use Rattle.occurrences.specs.Distinct.Sets.{contains-none, contains-end, contains-tested}
 use Rattle.sets.specs.declared.symbols.Symbols.{Symbols}
 use Rattle.sets.specs.Symbols.{wordOf, wordIn, setOf, symbolSet, Marks, MarksOf, PlacesOf, markWord}
 use Rattle.sets.specs.Symbols.Words.{word-ext, word-below}

@@ -2,16 +2,17 @@
 -- pattern.
 -- Assumes nothing.
 use mathlib.Core.Path.{_≡_, sym, ap, _∙_}
+use mathlib.Core.Bool.{true}
 use mathlib.Core.List.{List}
 use Prim.Native.Nat.{ℕ, _≤_, _<_}
 use native.Mathlib.Omega.{arith}
 use lib.ListN.{length, getD}
 use Rattle.theory.specs.Count.{members}
-use Rattle.theory.specs.Count.Laws.{count-ext, count-le, length-members, members-ext}
-use Rattle.shapes.specs.Windows.{windowCells}
-use Rattle.shapes.specs.Windows.Laws.{cells-byte}
-use Rattle.grid.specs.Distinct.{contains, distinct}
-use Rattle.grid.specs.Distinct.Sets.{distinct-count}
+use Rattle.theory.specs.Count.Laws.{count-ext, count-le, length-members, members-ext, members-pass}
+use Rattle.cells.specs.Windows.{windowCells}
+use Rattle.cells.specs.Windows.Laws.{cells-byte}
+use Rattle.occurrences.specs.Distinct.{contains, distinct}
+use Rattle.occurrences.specs.Distinct.Sets.{distinct-count}
 use Rattle.sets.specs.declared.symbols.Symbols.{Symbols}
 use Rattle.sets.specs.Symbols.{has, symbolSet, symbolsOf, sizeOf}
 use Rattle.sets.specs.Symbols.Blocks.{has-set}
@@ -41,3 +42,8 @@ window-size text columns row column height width bytes =
 pub listed-few : (pattern symbols : List ℕ) → symbols ≡ symbolsOf pattern → length symbols ≤ 256
 listed-few pattern symbols e =
     rw e (omega (arith, length-members (contains pattern) 256, count-le (contains pattern) 256))
+
+-- a listed symbol is a byte, and the pattern has it
+pub listed-symbol : (pattern listed : List ℕ) → listed ≡ symbolsOf pattern → (k : ℕ) → k < length listed
+    → (getD listed k 0 < 256) × (contains pattern (getD listed k 0) ≡ true)
+listed-symbol pattern listed e k h = rw e (members-pass (contains pattern) 256 k (rw e at h))

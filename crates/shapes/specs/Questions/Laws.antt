@@ -9,9 +9,9 @@ use Rattle.theory.specs.Test.Laws.{says-true, is-true}
 use Rattle.shapes.specs.declared.shapes.Shape.{Shape}
 use Rattle.shapes.specs.Shapes.{Sides, Fits, ShapeOf, goodSides, fits}
 use Rattle.shapes.specs.Shapes.Laws.{good-sides, good-cells, fits-tested}
-use Rattle.shapes.specs.Said.{accepts, _then_}
-use Rattle.shapes.specs.Said.Laws.{Numbered, check-numbered, then-numbered, check-accepts, check-true, then-both}
-use Rattle.shapes.specs.Said.Laws.{Proper, then-proper, numbered-proper}
+use Rattle.refusals.specs.Said.{accepts, _then_}
+use Rattle.refusals.specs.Said.Laws.{Numbered, check-numbered, then-numbered, check-accepts, check-true, then-both}
+use Rattle.refusals.specs.Said.Laws.{Proper, then-proper, numbered-proper}
 use Rattle.shapes.specs.Questions.{Grid, Question, sidesOf, sidesSaid, gridGood, gridSaid, cellsSaid, sizeSaid}
 use Rattle.shapes.specs.Questions.{shapeSaid, textOf, textSaid, Posed}
 

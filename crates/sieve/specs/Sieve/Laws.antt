@@ -1,7 +1,7 @@
 -- Laws of the test: the cells of the pairs lie in the text, what a pair that is not alike and a first row that does not
 -- agree say of a window, and window after window.
 -- Assumes nothing.
-use mathlib.Core.Path.{_≡_, refl, sym, _∙_, ap}
+use mathlib.Core.Path.{_≡_, sym, _∙_, ap}
 use mathlib.Core.Bool.{Bool, false}
 use mathlib.Core.List.{List}
 use Prim.Native.Nat.{ℕ, _+_, _-_, _*_, _/_, _%_, _≤_, _<_}
@@ -15,17 +15,18 @@ use Rattle.theory.specs.First.{First, first, every}
 use Rattle.theory.specs.First.Laws.{first-spec, every-tested}
 use Rattle.theory.specs.Match.{ends, firstEnd}
 use Rattle.theory.specs.Older.{Older}
-use Rattle.shapes.specs.Shapes.{ShapeOf, across, down}
+use Rattle.shapes.specs.Shapes.{across, down}
 use Rattle.shapes.specs.Shapes.Laws.{product-le}
-use Rattle.shapes.specs.Windows.{windowAt, stripAt, offsetOf}
-use Rattle.shapes.specs.Windows.Laws.{offset-at}
+use Rattle.cells.specs.Windows.{stripAt, offsetOf}
+use Rattle.cells.specs.Windows.Laws.{offset-at}
 use Rattle.shapes.specs.declared.shapes.Shape.{Shape}
-use Rattle.grid.specs.Strips.{StripOf, stripFrom}
+use Rattle.grid.specs.Strips.{stripFrom}
+use Rattle.grid.specs.Strips.Laws.{strip-of}
 use Rattle.prefixes.specs.Prefixes.{suffix}
 use Rattle.prefixes.specs.State.Laws.{swept-none}
 use Rattle.reach.specs.Reach.{ReachAt, Reached}
 use Rattle.reach.specs.Reach.Laws.{window-suffix}
-use Rattle.sieve.specs.Pairs.{PairAt, PairsInside, alikeAt, clear-alike}
+use Rattle.alike.specs.Pairs.{PairsInside, alikeAt, clear-alike}
 use Rattle.sieve.specs.Sieve.{Differs, RowsTo, RowsFrom, StripAsked, RowsAsked, firstRows}
 
 -- a mismatch that ends in the first k positions ends in all n
@@ -126,28 +127,6 @@ module _ (text pattern first earlier later : List ℕ) (s : Shape) (left top : �
 
 module _ (text pattern first : List ℕ) (s : Shape) (left top : ℕ) (asked : StripAsked text pattern first s left)
     (inside : top < down s) where
-  strip-of : StripOf (stripFrom (s .rows) (s .columns) (s .width) left) (length text)
-  strip-of =
-      let v = asked .shape in
-      let z = v .sized in
-      let b = asked .beside in
-      record {
-        shape = record {
-          sized = record {
-            sides =
-                record {
-                  rows-good = z .sides .rows-good;
-                  columns-good = z .sides .columns-good;
-                  height-good = z .sides .rows-good;
-                  width-good = z .sides .width-good;
-                };
-            fitting = record { height-le = omega arith; width-le = z .fitting .width-le };
-          };
-          cells-is = v .cells-is;
-        };
-        inside = omega (arith, z .fitting .width-le);
-      }
-
   module _ (rows : ℕ) (fit : rows ≤ s .height) where
     -- the pattern has so many rows
     cells-fit : rows * s .width ≤ length pattern
@@ -161,7 +140,7 @@ module _ (text pattern first : List ℕ) (s : Shape) (left top : ℕ) (asked : S
     rows-ask last e =
         let v = asked .shape in
         record {
-          strip = strip-of;
+          strip = strip-of s left (length text) (asked .shape) (asked .beside);
           down = rows-down;
           cells = cells-fit;
           places = asked .places;

@@ -23,7 +23,7 @@ use Rattle.theory.specs.Older.{Older}
 use Rattle.shapes.specs.Shapes.{Side, down}
 use Rattle.prefixes.specs.Prefixes.Ends.{ends-nowhere, self-end}
 use Rattle.reach.specs.Reach.Laws.{strip-cell}
-use Rattle.sweep.specs.Sweep.{RunAt, SelfIs, NextAt, NextIs, SidesOf, Owns, ownRows}
+use Rattle.sweep.specs.Sweep.{RunAt, OwnEndIs, NextAt, NextIs, SidesOf, OwnMismatches, ownRows}
 
 -- the pattern as a strip
 abbrev pub ownStrip : ℕ → ℕ → Strip
@@ -35,7 +35,7 @@ pub record OwnRun (pattern : List ℕ) (height width : ℕ) (last selves earlies
     pub below : 1 ≤ row
     pub rows-le : top ≤ height
     pub run : RunAt pattern (ownStrip height width) pattern last row reached top (height - top)
-    pub owns : Owns pattern width top selves earlies
+    pub owns : OwnMismatches pattern width top selves earlies
 
 module _ (pattern : List ℕ) (height width : ℕ) (sides : SidesOf pattern height width) where
   pub own-strip-of : StripOf (ownStrip height width) (length pattern)
@@ -75,7 +75,7 @@ module _ (pattern : List ℕ) (height width : ℕ) (sides : SidesOf pattern heig
   own-whole : (top : ℕ) → top ≤ height → (top + (height - top)) * width ≡ height * width
   own-whole top h = let e : top + (height - top) ≡ height = omega arith in ap (λ (x : ℕ). x * width) e
 
-  self-whole : SelfIs pattern (0 * width) (length pattern) 0
+  self-whole : OwnEndIs pattern (0 * width) (length pattern) 0
   self-whole =
       let z : 0 * width ≡ 0 = zero-mul width in
       let n : length pattern - 0 * width ≡ length pattern = omega arith in
@@ -102,7 +102,7 @@ module _ (pattern : List ℕ) (height width : ℕ) (sides : SidesOf pattern heig
         owns = record { selves-long = rw length-set ls; earlies-long = rw length-set le; each = λ k h. each k h };
       }
     where
-      each : (k : ℕ) → k < 1 → SelfIs pattern (k * width) (getD (set selves 0 (length pattern)) k 0)
+      each : (k : ℕ) → k < 1 → OwnEndIs pattern (k * width) (getD (set selves 0 (length pattern)) k 0)
           (getD (set earlies 0 0) k 0)
       each zero h =
           rw (getD-set-same selves 0 (length pattern) 0 (omega arith), getD-set-same earlies 0 0 0 (omega arith))
@@ -152,11 +152,12 @@ module _ (pattern : List ℕ) (height width : ℕ) (sides : SidesOf pattern heig
               };
         }
       where
-        this : SelfIs pattern (top * width) (r .end) (r .earlier)
+        this : OwnEndIs pattern (top * width) (r .end) (r .earlier)
         this = rw (own-symbols, own-left top (here .rows-le)) at (got .end)
 
         each : (k : ℕ) {t : Bool} → k < top + 1 → Tested (k ≡ top) t
-            → SelfIs pattern (k * width) (getD (set selves top (r .end)) k 0) (getD (set earlies top (r .earlier)) k 0)
+            → OwnEndIs pattern (k * width) (getD (set selves top (r .end)) k 0)
+            (getD (set earlies top (r .earlier)) k 0)
         each k h (holds e) =
             rw (
               e,
@@ -169,7 +170,7 @@ module _ (pattern : List ℕ) (height width : ℕ) (sides : SidesOf pattern heig
             (here .owns .each k (omega arith))
 
   pub own-all : (last selves earlies : List ℕ) (row reached top n : ℕ) → n ≤ top
-      → OwnRun pattern height width last selves earlies row reached top → Owns pattern width n selves earlies
+      → OwnRun pattern height width last selves earlies row reached top → OwnMismatches pattern width n selves earlies
   own-all last selves earlies row reached top n h here =
       record {
         selves-long = here .owns .selves-long;
@@ -195,6 +196,6 @@ own-rows-in height windows k a b = go (ltb windows height)
     go true = b
     go false = a
 
-pub owns-as : (pattern : List ℕ) (width n m : ℕ) (selves earlies : List ℕ) → n ≡ m → Owns pattern width n selves earlies
-    → Owns pattern width m selves earlies
-owns-as pattern width n m selves earlies e h = subst (λ (k : ℕ). Owns pattern width k selves earlies) e h
+pub owns-as : (pattern : List ℕ) (width n m : ℕ) (selves earlies : List ℕ) → n ≡ m
+    → OwnMismatches pattern width n selves earlies → OwnMismatches pattern width m selves earlies
+owns-as pattern width n m selves earlies e h = subst (λ (k : ℕ). OwnMismatches pattern width k selves earlies) e h

@@ -7,7 +7,8 @@ use Prim.Native.Nat.{ℕ, _+_, _-_, _*_, _≤_, _<_}
 use native.Mathlib.Nat.{add-mul, zero-mul, mul-le-mul-right}
 use native.Mathlib.Omega.{arith}
 use lib.ListN.{length, getD}
-use Rattle.grid.specs.Strips.{StripOf, stripSymbols, stripFrom}
+use Rattle.grid.specs.Strips.{stripSymbols, stripFrom}
+use Rattle.grid.specs.Strips.Laws.{strip-of}
 use Rattle.prefixes.specs.Prefixes.{suffix}
 use Rattle.prefixes.specs.State.Laws.{swept-none}
 use Rattle.reach.specs.Reach.Laws.{window-suffix}
@@ -16,8 +17,8 @@ use Rattle.theory.specs.Older.{Older}
 use Rattle.shapes.specs.Shapes.{ShapeOf, across, down}
 use Rattle.sweep.specs.Sweep.{RunAt, NextAt, NextIs, SidesOf, endOf, earlierOf, SweepAt}
 use Rattle.sweep.specs.Sweep.Own.{own-rows-in}
-use Rattle.shapes.specs.Windows.{windowAt}
-use Rattle.shapes.specs.Windows.Laws.{corner-row, corner-column}
+use Rattle.cells.specs.Windows.{windowAt}
+use Rattle.cells.specs.Windows.Laws.{corner-row, corner-column}
 use Rattle.shapes.specs.declared.shapes.Shape.{Shape}
 use Rattle.grid.specs.declared.strips.Strip.{Strip}
 
@@ -32,26 +33,6 @@ sides-of text s pattern shape e =
 
 module _ (text : List ℕ) (s : Shape) (pattern first selves earlies : List ℕ) (left : ℕ)
     (asked : SweepAt text s pattern first selves earlies) (beside : left < across s) where
-  strip-of : StripOf (columnStrip s left) (length text)
-  strip-of =
-      let z = asked .shape .sized in
-      record {
-        shape = record {
-          sized = record {
-            sides =
-                record {
-                  rows-good = z .sides .rows-good;
-                  columns-good = z .sides .columns-good;
-                  height-good = z .sides .rows-good;
-                  width-good = z .sides .width-good;
-                };
-            fitting = record { height-le = omega arith; width-le = z .fitting .width-le };
-          };
-          cells-is = asked .shape .cells-is;
-        };
-        inside = omega (arith, z .fitting .width-le);
-      }
-
   pub run-first : (last : List ℕ) → Older 1 last
       → RunAt text (columnStrip s left) pattern last 0 0 0 (s .height)
   run-first last o =
@@ -98,7 +79,7 @@ module _ (text : List ℕ) (s : Shape) (pattern first selves earlies : List ℕ)
           reached top (s .height)
       run-asks =
           record {
-            strip = strip-of;
+            strip = strip-of s left (length text) (asked .shape) beside;
             down = omega (arith, asked .shape .sized .fitting .height-le);
             cells = omega (arith, asked .cells);
             places = asked .places;

@@ -15,7 +15,7 @@ use Rattle.prefixes.specs.State.{Swept}
 use Rattle.prefixes.specs.State.Laws.{swept-past, swept-lower}
 use Rattle.reach.specs.Reach.{ReachAt, Reached}
 use Rattle.shapes.specs.Shapes.{down}
-use Rattle.sweep.specs.Sweep.{SelfIs, NextAt, NextIs}
+use Rattle.sweep.specs.Sweep.{OwnEndIs, NextAt, NextIs}
 
 -- a window that was compared
 module _ (text : List ℕ) (s : Strip) (pattern first last₀ : List ℕ) (top height line j : ℕ)
@@ -77,7 +77,7 @@ module _ (text : List ℕ) (s : Strip) (pattern first last selves earlies : List
 
   module _ (under : top * s .width < reached) (f g : ℕ) (ef : f ≡ getD selves (top - row) 0)
       (eg : g ≡ getD earlies (top - row) 0) where
-    self-is : SelfIs pattern ((top - row) * s .width) f g
+    self-is : OwnEndIs pattern ((top - row) * s .width) f g
     self-is = rw (ef, eg) (asked .self under)
 
     self-fits : reached ≤ row * s .width + (top - row) * s .width + (length pattern - (top - row) * s .width)

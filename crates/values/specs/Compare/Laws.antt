@@ -4,9 +4,9 @@ use mathlib.Core.Path.{_≡_, refl, sym, _∙_, ap}
 use Prim.Native.Nat.{ℕ}
 use mathlib.Core.List.{List, []}
 use native.Mathlib.Omega.{arith}
-use Rattle.shapes.specs.Refusals.Laws.{number-positive}
-use Rattle.shapes.specs.Said.{Said, accepts, refuses, _then_, saidNumber, newBy}
-use Rattle.shapes.specs.Said.Laws.{not-accepted}
+use Rattle.refusals.specs.Refusals.Laws.{number-positive}
+use Rattle.refusals.specs.Said.{Said, accepts, refuses, _then_, saidNumber, newBy}
+use Rattle.refusals.specs.Said.Laws.{not-accepted}
 use Rattle.shapes.specs.Questions.{Question}
 use Rattle.matching.specs.Compare.{verdictSaid, verdictOf, answerIn, bijectionAt, placeSaid, windowSaid, Told, told}
 use Rattle.matching.specs.Compare.{oneWindowOf}

@@ -6,7 +6,7 @@ use Prim.Native.Nat.{_+_, _/_}
 use native.Mathlib.Nat.{le-mul-of-pos-right}
 use native.Mathlib.Omega.{arith}
 use borrow.Author.Needs.{needs}
-use Rattle.shapes.specs.Windows.Laws.{window-at}
+use Rattle.cells.specs.Windows.Laws.{window-at}
 use Rattle.view.proofs.cell_at.Statement.{statement}
 use Rattle.view.proofs.cell_at.Tie as tie
 

@@ -9,8 +9,8 @@ use native.Mathlib.Omega.{arith}
 use lib.ListN.{take, drop}
 use denote.Ref.{now}
 use borrow.Author.Needs.{needs}
-use Rattle.shapes.specs.Windows.{rowCells}
-use Rattle.shapes.specs.Windows.Laws.{row-cells-is}
+use Rattle.cells.specs.Windows.{rowCells}
+use Rattle.cells.specs.Windows.Laws.{row-cells-is}
 use Rattle.view.proofs.row_part.Statement.{statement}
 use Rattle.view.proofs.row_part.Tie as tie
 

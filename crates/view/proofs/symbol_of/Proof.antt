@@ -40,7 +40,7 @@ use denote.Triple.Table.{entered, cited}
 use denote.Triple.Walked.{says, needs, Stays, stay-none, walkOf, goes-none, Walks, ends-at, walked, walk-meets}
 use denote.Triple.Clauses.{ensured, lasts}
 use denote.Exit.{yes}
-use Rattle.shapes.specs.Windows.{windowAt}
+use Rattle.cells.specs.Windows.{windowAt}
 use Rattle.view.specs.Inside.{CellInside}
 use Rattle.view.specs.declared.WindowView.{WindowView}
 use Rattle.view.proofs.Shared.{B, S, num, slice, view-beside, view-apart}

@@ -40,7 +40,7 @@ use denote.Triple.Walked.{says, needs, Stays, stay-none, stay-none-slice, walkOf
 use denote.Triple.Walked.{ends-at, walked, walk-meets}
 use denote.Triple.Clauses.{ensured, lasts}
 use denote.Exit.{yes}
-use Rattle.shapes.specs.Windows.{rowCells}
+use Rattle.cells.specs.Windows.{rowCells}
 use Rattle.view.specs.Inside.{RowInside}
 use Rattle.view.specs.declared.WindowView.{WindowView}
 use Rattle.view.proofs.Shared.{B, S, num, slice, Small, slice-beside, view-beside, New, to-new, Made}

@@ -6,7 +6,7 @@ use native.Mathlib.Omega.{arith}
 use borrow.Author.Needs.{needs}
 use borrow.Author.Tests.{not-false}
 use Rattle.matching.specs.Compare.Positions.{rows-small}
-use Rattle.carrying.specs.Inheritance.Laws.{above-more}
+use Rattle.inheriting.specs.Inheritance.Laws.{above-more}
 use Rattle.carrying.proofs.carries.carries.Statement.{statement}
 use Rattle.carrying.proofs.carries.carries.Tie as tie
 

@@ -8,7 +8,7 @@ use borrow.Author.Needs.{needs}
 use denote.Ref.{now}
 use Rattle.matching.specs.Compare.Rows.{part-is, row-fits, cells-fit, same-length}
 use Rattle.matching.specs.Compare.Positions.{positions-small}
-use Rattle.carrying.specs.Carries.{cells-inside, rows-more}
+use Rattle.inheriting.specs.Carries.{cells-inside, rows-more}
 use Rattle.carrying.proofs.carries.carry_row.Statement.{statement}
 use Rattle.carrying.proofs.carries.carry_row.Tie as tie
 

@@ -8,7 +8,7 @@ use Prim.Native.Nat.{_-_, _≤_, _+_}
 use lib.ListN.{length}
 use denote.Ref.{now}
 use Rattle.theory.specs.Test.Laws.{eq-tested, says-true}
-use Rattle.carrying.specs.Carries.{RowCarried, row-none, row-more, row-two}
+use Rattle.inheriting.specs.Carries.{RowCarried, row-none, row-more, row-two}
 use Rattle.carrying.proofs.carries.row_carries.Statement.{statement}
 use Rattle.carrying.proofs.carries.row_carries.Tie as tie
 
@@ -26,11 +26,11 @@ loop-holds c =
 add-loop : tie.Need-add-loop Inv-loop μ-loop
 add-loop c = omega arith
 
-shared-slice-read-image-of : tie.Need-shared-slice-read-image-of Inv-loop μ-loop
-shared-slice-read-image-of c = omega arith
+shared-slice-read-image-behind : tie.Need-shared-slice-read-image-behind Inv-loop μ-loop
+shared-slice-read-image-behind c = omega arith
 
-image-of-requires : tie.Need-image-of-requires Inv-loop μ-loop
-image-of-requires c κs =
+image-behind-requires : tie.Need-image-behind-requires Inv-loop μ-loop
+image-behind-requires c κs =
     let o = c .before .before .before .before .before .before in
     let i = c .before .before .loop in
     (o .pre .0 .long, o .pre .0 .each (i .j) (omega (arith, o .pre .1, c .before .loop-test .taken)))
@@ -41,14 +41,14 @@ shared-slice-read-if1 c = omega arith
 returns : tie.Need-returns Inv-loop μ-loop
 returns c = λ e. absurd (false≢true e)
 
-add-image-of : tie.Need-add-image-of Inv-loop μ-loop
-add-image-of c = omega arith
+add-image-behind : tie.Need-add-image-behind Inv-loop μ-loop
+add-image-behind c = omega arith
 
-shared-slice-read-image-of-2 : tie.Need-shared-slice-read-image-of-2 Inv-loop μ-loop
-shared-slice-read-image-of-2 c = omega arith
+shared-slice-read-image-behind-2 : tie.Need-shared-slice-read-image-behind-2 Inv-loop μ-loop
+shared-slice-read-image-behind-2 c = omega arith
 
-image-of-requires-2 : tie.Need-image-of-requires-2 Inv-loop μ-loop
-image-of-requires-2 c κs =
+image-behind-requires-2 : tie.Need-image-behind-requires-2 Inv-loop μ-loop
+image-behind-requires-2 c κs =
     let o = c .before .before .before .before .before .before .before .before .before .before in
     let t = c .before .before .before .before .before in
     (o .pre .0 .long, o .pre .0 .each (t .before .loop .j + 1) (omega (arith, o .pre .1, t .loop-test .taken)))
@@ -75,15 +75,15 @@ loop-again c =
     let i = t .before .loop in (
       omega (arith, t .loop-test .taken),
       row-two _ _ _ _ (now (a .cells)) (i .j) _ _ (i .inv .1)
-          (c .before .before .before .before .before .before .image-of .ensures)
-          (c .before .before .before .before .if1 .left) (c .before .before .image-of2 .ensures) (c .if2 .left),
+          (c .before .before .before .before .before .before .image-behind .ensures)
+          (c .before .before .before .before .if1 .left) (c .before .before .image-behind2 .ensures) (c .if2 .left),
     )
 
-shared-slice-read-image-of-3 : tie.Need-shared-slice-read-image-of-3 Inv-loop μ-loop
-shared-slice-read-image-of-3 c = omega arith
+shared-slice-read-image-behind-3 : tie.Need-shared-slice-read-image-behind-3 Inv-loop μ-loop
+shared-slice-read-image-behind-3 c = omega arith
 
-image-of-requires-3 : tie.Need-image-of-requires-3 Inv-loop μ-loop
-image-of-requires-3 c κs =
+image-behind-requires-3 : tie.Need-image-behind-requires-3 Inv-loop μ-loop
+image-behind-requires-3 c κs =
     let o = c .before .before .before .before .before .before .before in
     let i = c .before .before .before .loop in
     (o .pre .0 .long, o .pre .0 .each (i .j) (omega (arith, o .pre .1, c .before .if3 .taken)))
@@ -97,7 +97,7 @@ returns-3 c =
     let i = c .before .before .before .before .before .loop in
     let t = c .before .before .before in
     let all : i .j + 1 ≡ length (now (a .row)) = omega (arith, t .if3 .taken, t .before .loop-test .left) in
-    λ e. rw all at (row-more _ _ _ _ (now (a .cells)) (i .j) _ (i .inv .1) (c .before .image-of3 .ensures)
+    λ e. rw all at (row-more _ _ _ _ (now (a .cells)) (i .j) _ (i .inv .1) (c .before .image-behind3 .ensures)
     (says-true (eq-tested _ _) e))
 
 returns-4 : tie.Need-returns-4 Inv-loop μ-loop
@@ -115,21 +115,21 @@ row-carries-spec =
     μ-loop
     loop-holds
     add-loop
-    shared-slice-read-image-of
-    image-of-requires
+    shared-slice-read-image-behind
+    image-behind-requires
     shared-slice-read-if1
     returns
-    add-image-of
-    shared-slice-read-image-of-2
-    image-of-requires-2
+    add-image-behind
+    shared-slice-read-image-behind-2
+    image-behind-requires-2
     add-if2
     shared-slice-read-if2
     returns-2
     add-j
     loop-less
     loop-again
-    shared-slice-read-image-of-3
-    image-of-requires-3
+    shared-slice-read-image-behind-3
+    image-behind-requires-3
     shared-slice-read-result
     returns-3
     returns-4)

@@ -10,8 +10,8 @@ use borrow.Author.Tests.{not-false}
 use denote.Ref.{now}
 use Rattle.matching.specs.Compare.Rows.{row-fits, cells-fit}
 use Rattle.matching.specs.Compare.Positions.{positions-small, rows-small, start-small}
-use Rattle.carrying.specs.Carries.{RowsCarried, rows-known, rows-all}
-use Rattle.carrying.specs.Inheritance.Laws.{carried-follows, follows-carried, rows-above}
+use Rattle.inheriting.specs.Carries.{RowsCarried, rows-known, rows-all}
+use Rattle.inheriting.specs.Inheritance.Laws.{carried-follows, follows-carried, rows-above}
 use Rattle.carrying.proofs.carries.rows_carry.Statement.{statement}
 use Rattle.carrying.proofs.carries.rows_carry.Tie as tie
 

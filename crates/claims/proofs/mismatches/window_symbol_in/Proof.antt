@@ -7,7 +7,7 @@ use Prim.Native.Nat.{_+_, _*_, _≤_, _<_}
 use lib.ListN.{length}
 use borrow.Author.Needs.{needs}
 use denote.Ref.{now}
-use Rattle.shapes.specs.Windows.Laws.{window-cell}
+use Rattle.cells.specs.Windows.Laws.{window-cell}
 use Rattle.matching.specs.Compare.Positions.{rows-small}
 use Rattle.claims.specs.Mismatches.{cell-in-text}
 use Rattle.claims.proofs.mismatches.window_symbol_in.Statement.{statement}

@@ -6,7 +6,7 @@ use lib.Seq.{length-take-le}
 use borrow.Author.Needs.{needs}
 use denote.Ref.{now}
 use Rattle.shapes.specs.Questions.{ask}
-use Rattle.writer.specs.Listing.{searchRecords}
+use Rattle.entries.specs.Listing.{searchRecords}
 use Rattle.search.specs.Search.Outcome.{listed-fits, listed-bytes, listed-length, listed-inside}
 use Rattle.drafts.proofs.running.run_in.Statement.{statement}
 use Rattle.drafts.proofs.running.run_in.Tie as tie

@@ -2,7 +2,7 @@
 -- over.
 -- Assumes nothing.
 use mathlib.Core.Path.{_≡_, _∙_, ap}
-use Rattle.shapes.specs.Said.{saidNumber}
+use Rattle.refusals.specs.Said.{saidNumber}
 use Rattle.mapping.specs.Bijections.{Renamed, composeOf}
 use Rattle.mapping.specs.declared.bijections.Bijection.{Bijection}
 use borrow.Author.Needs.{needs}

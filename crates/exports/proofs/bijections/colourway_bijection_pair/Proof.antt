@@ -1,7 +1,7 @@
 -- `pair` fixes the number and the bijection, of the bijection that the columns held; `write_answer` hands both over.
 -- Assumes nothing.
 use mathlib.Core.Path.{_∙_, ap}
-use Rattle.shapes.specs.Said.{saidNumber}
+use Rattle.refusals.specs.Said.{saidNumber}
 use Rattle.mapping.specs.Bijections.{Renamed, pairOf}
 use Rattle.mapping.specs.declared.bijections.Bijection.{Bijection}
 use borrow.Author.Needs.{needs}

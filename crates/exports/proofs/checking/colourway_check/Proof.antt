@@ -3,8 +3,8 @@
 use mathlib.Core.Path.{_∙_, ap}
 use borrow.Author.Needs.{needs}
 use denote.Ref.{now}
-use Rattle.shapes.specs.Said.{Said, saidNumber}
-use Rattle.values.specs.Returned.{valuesBy}
+use Rattle.refusals.specs.Said.{Said, saidNumber}
+use Rattle.returned.specs.Returned.{valuesBy}
 use Rattle.exports.proofs.checking.colourway_check.Statement.{statement}
 use Rattle.exports.proofs.checking.colourway_check.Tie as tie
 

@@ -7,10 +7,10 @@ use Prim.Native.Nat.{ℕ}
 use lib.ListN.{getD}
 use borrow.Author.Needs.{needs}
 use denote.Ref.{now}
-use Rattle.shapes.specs.Said.{Said, saidNumber, saidValues}
-use Rattle.shapes.specs.Refusals.{valueOr}
-use Rattle.values.specs.Reader.{fieldsBy}
-use Rattle.values.specs.Reader.Laws.{next-returned}
+use Rattle.refusals.specs.Said.{Said, saidNumber, saidValues}
+use Rattle.refusals.specs.Refusals.{valueOr}
+use Rattle.fields.specs.Reader.{fieldsBy}
+use Rattle.fields.specs.Reader.Laws.{next-returned}
 use Rattle.exports.proofs.reader.colourway_read.Statement.{statement}
 use Rattle.exports.proofs.reader.colourway_read.Tie as tie
 

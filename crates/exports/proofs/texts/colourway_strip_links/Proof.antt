@@ -1,8 +1,8 @@
 -- `strip_links` fixes the outcome's number and the buffer, and `outcome_number` gives that number.
 -- Assumes nothing.
 use mathlib.Core.Path.{_∙_, ap}
-use Rattle.shapes.specs.Said.{saidNumber}
-use Rattle.shapes.specs.Said.Laws.{same-said, same-buffer}
+use Rattle.refusals.specs.Said.{saidNumber}
+use Rattle.refusals.specs.Said.Laws.{same-said, same-buffer}
 use borrow.Author.Needs.{needs}
 use Rattle.exports.proofs.texts.colourway_strip_links.Statement.{statement}
 use Rattle.exports.proofs.texts.colourway_strip_links.Tie as tie

@@ -1,7 +1,7 @@
 -- Each arm gives the number of the case that `window_cell` answers.
 -- Assumes nothing.
 use mathlib.Core.Path.{_∙_, ap, sym}
-use Rattle.shapes.specs.Windows.{cellNumber}
+use Rattle.cells.specs.Windows.{cellNumber}
 use borrow.Author.Needs.{needs}
 use Rattle.exports.proofs.texts.colourway_window_cell.Statement.{statement}
 use Rattle.exports.proofs.texts.colourway_window_cell.Tie as tie

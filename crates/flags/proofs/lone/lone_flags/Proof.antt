@@ -12,7 +12,7 @@ use Rattle.theory.specs.Store.{stored}
 use Rattle.theory.specs.Store.Laws.{stored-none, length-stored, stored-more}
 use Rattle.shapes.specs.Shapes.{across, down}
 use Rattle.shapes.specs.Shapes.Laws.{product-le}
-use Rattle.grid.specs.Counts.Laws.{place-lt, windows-small}
+use Rattle.counts.specs.Counts.Laws.{place-lt, windows-small}
 use Rattle.flags.proofs.lone.lone_flags.Statement.{statement}
 use Rattle.flags.proofs.lone.lone_flags.Tie as tie
 

@@ -5,7 +5,7 @@ use Prim.Native.Nat.{_+_, _*_, _<_}
 use borrow.Author.Tests.{not-true}
 use denote.Ref.{now}
 use Rattle.shapes.specs.Shapes.{across, down}
-use Rattle.grid.specs.Counts.Laws.{place-lt, windows-small}
+use Rattle.counts.specs.Counts.Laws.{place-lt, windows-small}
 use Rattle.flags.specs.Flags.Lone.{none-here, older-past}
 use Rattle.flags.proofs.one_row.row_flag.Statement.{statement}
 use Rattle.flags.proofs.one_row.row_flag.Tie as tie

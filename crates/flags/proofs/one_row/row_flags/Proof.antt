@@ -12,7 +12,7 @@ use Rattle.theory.specs.Older.Laws.{older-zeros}
 use Rattle.theory.specs.Store.{stored}
 use Rattle.theory.specs.Store.Laws.{stored-none, length-stored, stored-more}
 use Rattle.shapes.specs.Shapes.{across, down}
-use Rattle.grid.specs.Counts.Laws.{place-lt, windows-small}
+use Rattle.counts.specs.Counts.Laws.{place-lt, windows-small}
 use Rattle.flags.specs.Flags.Strips.{flagOf}
 use Rattle.flags.proofs.one_row.row_flags.Statement.{statement}
 use Rattle.flags.proofs.one_row.row_flags.Tie as tie

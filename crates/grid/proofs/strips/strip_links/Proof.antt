@@ -5,8 +5,8 @@ use mathlib.Core.Path.{_≡_}
 use mathlib.Core.List.{[]}
 use denote.Ref.{now}
 use lib.ListN.{length}
-use Rattle.shapes.specs.Said.{accepts}
-use Rattle.shapes.specs.Said.Laws.{passed-said}
+use Rattle.refusals.specs.Said.{accepts}
+use Rattle.refusals.specs.Said.Laws.{passed-said}
 use Rattle.grid.specs.Strips.{linksSaid, stripFrom}
 use Rattle.grid.specs.Strips.Laws.{links-kept, links-passed}
 use Rattle.grid.specs.Strips.Rows.{links-written}

@@ -6,7 +6,7 @@ use native.Mathlib.Omega.{arith}
 use borrow.Author.Tests.{not-true, not-false}
 use denote.Ref.{now}
 use lib.ListN.{length}
-use Rattle.shapes.specs.Said.Laws.{passed-said}
+use Rattle.refusals.specs.Said.Laws.{passed-said}
 use Rattle.shapes.specs.Questions.Laws.{text-shaped}
 use Rattle.shapes.specs.Shapes.{Shaped}
 use Rattle.shapes.specs.Shapes.Laws.{product-le}

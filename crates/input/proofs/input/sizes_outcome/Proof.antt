@@ -6,8 +6,8 @@ use native.Mathlib.Omega.{arith}
 use borrow.Author.Tests.{not-true, not-false}
 use Prim.Native.Nat.{_*_}
 use mathlib.Core.List.{[]}
-use Rattle.shapes.specs.Said.{accepts}
-use Rattle.shapes.specs.Said.Laws.{passed-said}
+use Rattle.refusals.specs.Said.{accepts}
+use Rattle.refusals.specs.Said.Laws.{passed-said}
 use Rattle.shapes.specs.Shapes.{goodSides}
 use Rattle.input.specs.Input.{countSaid}
 use Rattle.input.specs.Input.Sizes.{sides-refused, cells-small, cells-refused, size-refused, sizes-accepted}
@@ -22,7 +22,7 @@ good c = sym (c .before .good-sides .ensures) ∙ not-false _ (c .if1 .left)
 -- and so are the cells
 passed : (c : tie.After-enum-told) → let a = c .before .before .before .before .before .args in
     countSaid (a .rows * a .columns) (a .height * a .width) (a .given) ≡ accepts []
-passed c = passed-said _ _ (c .enum-told .given .1) (c .before .before .cells-outcome .ensures)
+passed c = passed-said _ _ (c .enum-told .given .1) (c .before .before .count-outcome .ensures)
 
 good-sides-requires : tie.Need-good-sides-requires
 good-sides-requires c κs = search needs
@@ -30,14 +30,14 @@ good-sides-requires c κs = search needs
 returns : tie.Need-returns
 returns c = sides-refused _ _ _ _ _ (sym (c .before .good-sides .ensures) ∙ not-true _ (c .if1 .taken))
 
-mul-cells-outcome : tie.Need-mul-cells-outcome
-mul-cells-outcome c = omega (arith, cells-small _ _ _ _ (good c) .0)
+mul-count-outcome : tie.Need-mul-count-outcome
+mul-count-outcome c = omega (arith, cells-small _ _ _ _ (good c) .0)
 
-mul-cells-outcome-2 : tie.Need-mul-cells-outcome-2
-mul-cells-outcome-2 c = omega (arith, cells-small _ _ _ _ (good c) .1)
+mul-count-outcome-2 : tie.Need-mul-count-outcome-2
+mul-count-outcome-2 c = omega (arith, cells-small _ _ _ _ (good c) .1)
 
-cells-outcome-requires : tie.Need-cells-outcome-requires
-cells-outcome-requires c κs = cells-small _ _ _ _ (good c)
+count-outcome-requires : tie.Need-count-outcome-requires
+count-outcome-requires c κs = cells-small _ _ _ _ (good c)
 
 enum-told : tie.Need-enum-told
 enum-told c = search needs
@@ -46,7 +46,7 @@ enum-told-2 : tie.Need-enum-told-2
 enum-told-2 c = search needs
 
 returns-2 : tie.Need-returns-2
-returns-2 c = cells-refused _ _ _ _ _ (good (c .before .before .before)) _ _ (c .enum-told2 .given .1) (c .before .before .cells-outcome .ensures)
+returns-2 c = cells-refused _ _ _ _ _ (good (c .before .before .before)) _ _ (c .enum-told2 .given .1) (c .before .before .count-outcome .ensures)
 
 window-fits-requires : tie.Need-window-fits-requires
 window-fits-requires c κs = search needs
@@ -67,9 +67,9 @@ sizes-outcome-spec =
     (tie.spec
     good-sides-requires
     returns
-    mul-cells-outcome
-    mul-cells-outcome-2
-    cells-outcome-requires
+    mul-count-outcome
+    mul-count-outcome-2
+    count-outcome-requires
     enum-told
     enum-told-2
     returns-2

@@ -6,12 +6,14 @@ use mathlib.Core.List.{[]}
 use native.Mathlib.Omega.{arith}
 use denote.Ref.{now}
 use Rattle.theory.specs.Bytes.{Bytes}
-use Rattle.shapes.specs.Said.{accepts}
-use Rattle.shapes.specs.Said.Laws.{passed-said}
+use Rattle.refusals.specs.Said.{accepts}
+use Rattle.refusals.specs.Said.Laws.{passed-said}
 use Rattle.shapes.specs.Questions.{Question, ask}
 use Rattle.flags.specs.Flags.{roomsOf}
-use Rattle.search.specs.Search.{Lent, lend, roomSaid}
-use Rattle.search.specs.Search.Accepted.{room-passed, search-stopped, search-goes}
+use Rattle.search.specs.Search.{Lent, lend}
+use Rattle.rooms.specs.Rooms.{roomSaid}
+use Rattle.search.specs.Search.Accepted.{search-stopped, search-goes}
+use Rattle.rooms.specs.Rooms.Laws.{room-passed}
 use borrow.Author.Needs.{needs}
 use Rattle.search.proofs.search.search.Statement.{statement}
 use Rattle.search.proofs.search.search.Tie as tie

@@ -9,12 +9,12 @@ use lib.ListN.{getD}
 use lib.Seq.{length-take-le}
 use denote.Ref.{now}
 use Rattle.theory.specs.Older.Laws.{zeros-long}
-use Rattle.grid.specs.Counts.Laws.{windows-small}
+use Rattle.counts.specs.Counts.Laws.{windows-small}
 use Rattle.shapes.specs.Questions.{asked}
 use Rattle.search.specs.Search.{lend}
 use Rattle.search.specs.Search.Answers.{says-short, says-listed}
-use Rattle.search.specs.Search.Pattern.{front-symbols, front-inside}
-use Rattle.search.specs.Search.Steps.{Totalled, marked-flags, flags-long, flagged, totalled, listing-fits}
+use Rattle.totals.specs.Pattern.{front-symbols, front-inside}
+use Rattle.search.specs.Search.Steps.{Totalled, flags-after, flags-long, flagged, totalled, listing-fits}
 use borrow.Author.Needs.{needs}
 use Rattle.search.proofs.search.search_windows.Statement.{statement}
 use Rattle.search.proofs.search.search_windows.Tie as tie
@@ -49,7 +49,7 @@ totals c =
     let a = o .args in
     let e = c .totals-of .ensures in
     totalled (now (a .text)) (now (a .pattern)) (a .s) _ _ (now (a .flags)) _ (o .pre)
-    (marked-flags _ _ _ (marking (c .before) .flag-all .ensures)) _ _ _ (e .0) (e .1 .0) (e .1 .1)
+    (flags-after _ _ _ (marking (c .before) .flag-all .ensures)) _ _ _ (e .0) (e .1 .0) (e .1 .1)
 
 add-n : tie.Need-add-n
 add-n c = search needs
@@ -84,7 +84,7 @@ totals-of-requires : tie.Need-totals-of-requires
 totals-of-requires c κs =
     let o = entry c in
     let a = o .args in
-    let flags-are = marked-flags _ _ _ (marking c .flag-all .ensures) in (
+    let flags-are = flags-after _ _ _ (marking c .flag-all .ensures) in (
       reading c .read-pattern .ensures .0,
       omega (arith, windows-small (a .s) _ (o .pre .shape)),
       omega (
@@ -133,7 +133,7 @@ write-listing-requires c κs =
     let a = o .args in
     let e = reading t .read-pattern .ensures in (
       flagged (now (a .text)) (now (a .pattern)) (a .s) _ _ (now (a .flags)) _ (o .pre)
-          (marked-flags _ _ _ (marking t .flag-all .ensures)),
+          (flags-after _ _ _ (marking t .flag-all .ensures)),
       sums .found-is,
       sums .refused-is,
       listing-fits (now (a .text)) (now (a .pattern)) (a .s) _ _ _ _ sums (bytes t) (test .if1 .left),

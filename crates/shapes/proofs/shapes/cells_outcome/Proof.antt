@@ -1,7 +1,7 @@
 -- `shapes::cells_outcome` meets its contract: the text's cells, then the pattern's.
 -- Assumes nothing.
 use mathlib.Core.Path.{_∙_, ap₂}
-use Rattle.shapes.specs.Said.{_then_}
+use Rattle.refusals.specs.Said.{_then_}
 use Rattle.shapes.specs.Questions.{cellsSaid}
 use borrow.Author.Needs.{needs}
 use Rattle.shapes.proofs.shapes.cells_outcome.Statement.{statement}

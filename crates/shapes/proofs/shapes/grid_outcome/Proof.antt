@@ -2,7 +2,7 @@
 -- Assumes nothing.
 use mathlib.Core.Path.{sym, _∙_}
 use borrow.Author.Tests.{not-true, not-false}
-use Rattle.shapes.specs.Said.Laws.{check-refuses, check-accepts}
+use Rattle.refusals.specs.Said.Laws.{check-refuses, check-accepts}
 use Rattle.shapes.specs.Questions.{gridSaid}
 use borrow.Author.Needs.{needs}
 use Rattle.shapes.proofs.shapes.grid_outcome.Statement.{statement}

@@ -1,7 +1,7 @@
 -- `shapes::question_outcome` meets its contract: 2, then 3, then 4, each by its own function.
 -- Assumes nothing.
 use mathlib.Core.Path.{_∙_, ap₂}
-use Rattle.shapes.specs.Said.{_then_}
+use Rattle.refusals.specs.Said.{_then_}
 use Rattle.shapes.specs.Questions.{shapeSaid}
 use borrow.Author.Needs.{needs}
 use Rattle.shapes.proofs.shapes.question_outcome.Statement.{statement}

@@ -4,7 +4,7 @@ use mathlib.Core.Path.{refl}
 use native.Mathlib.Omega.{arith}
 use Prim.Native.Nat.{_+_, _-_, _*_, _<_}
 use Rattle.shapes.specs.Shapes.{across, down}
-use Rattle.grid.specs.Counts.Laws.{place-lt, windows-small}
+use Rattle.counts.specs.Counts.Laws.{place-lt, windows-small}
 use Rattle.sieve.specs.Sieve.{RowsTo}
 use Rattle.sieve.specs.Sieve.Laws.{rows-none, rows-more}
 use Rattle.sieve.proofs.wanted.first_wanted.Statement.{statement}

@@ -4,7 +4,7 @@ use mathlib.Core.Path.{refl}
 use native.Mathlib.Omega.{arith}
 use Prim.Native.Nat.{_+_, _-_, _*_, _≤_, _<_}
 use Rattle.shapes.specs.Shapes.{across, down}
-use Rattle.grid.specs.Counts.Laws.{place-lt, windows-small}
+use Rattle.counts.specs.Counts.Laws.{place-lt, windows-small}
 use Rattle.sieve.specs.Sieve.{RowsFrom}
 use Rattle.sieve.specs.Sieve.Laws.{below-none, below-more, below-less}
 use Rattle.sieve.proofs.wanted.last_wanted.Statement.{statement}

@@ -7,11 +7,11 @@ use native.Mathlib.Omega.{arith}
 use borrow.Author.Needs.{needs}
 use denote.Ref.{now}
 use Rattle.theory.specs.Bytes.{Bytes}
-use Rattle.shapes.specs.Said.{accepts}
-use Rattle.shapes.specs.Said.Laws.{passed-said}
+use Rattle.refusals.specs.Said.{accepts}
+use Rattle.refusals.specs.Said.Laws.{passed-said}
 use Rattle.shapes.specs.Questions.{Question, ask, shapeSaid}
 use Rattle.shapes.specs.Questions.Laws.{posed}
-use Rattle.verify.specs.Check.Answers.{check-walked, check-refused}
+use Rattle.verify.specs.Answers.{check-walked, check-refused}
 use Rattle.verify.proofs.check.check.Statement.{statement}
 use Rattle.verify.proofs.check.check.Tie as tie
 

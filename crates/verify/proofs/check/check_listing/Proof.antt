@@ -8,16 +8,16 @@ use borrow.Author.Needs.{needs}
 use denote.Ref.{now}
 use Rattle.shapes.specs.Questions.{asked}
 use Rattle.shapes.specs.Shapes.{across, down}
-use Rattle.grid.specs.Counts.Laws.{windows-small}
+use Rattle.counts.specs.Counts.Laws.{windows-small}
 use Rattle.claims.specs.declared.walks.Walk.the-variants.{Goes}
-use Rattle.verify.specs.Check.{windowsTo, foundTo}
+use Rattle.rules.specs.Check.{windowsTo, foundTo}
 use Rattle.verify.specs.Windows.{WindowsWalked, found-le}
-use Rattle.verify.specs.Check.Answers.{stopped-answer, closing-stopped, closing-kept}
+use Rattle.verify.specs.Answers.{stopped-answer, closing-stopped, closing-kept}
 use Rattle.verify.proofs.check.check_listing.Statement.{statement}
 use Rattle.verify.proofs.check.check_listing.Tie as tie
 
 -- where the call begins
-abbrev entry : tie.After-read-windows → tie.Start
+abbrev entry : tie.After-check-windows → tie.Start
 entry c = c .before .before .before .before
 
 -- all windows are right: where they end, and how many stand as found
@@ -26,7 +26,7 @@ passed : (c : tie.After-walked2) → let a = entry (c .before .before) .args in
     × (c .walked2 .given .0 .1 .0 ≡ foundTo (asked (now (a .text)) (now (a .pattern)) (a .s)) (now (a .listing)) (down (a .s) * across (a .s)))
 passed c =
     let a = entry (c .before .before) .args in
-    subst (WindowsWalked (asked (now (a .text)) (now (a .pattern)) (a .s)) (now (a .listing))) (c .walked2 .given .1) (c .before .before .read-windows .ensures)
+    subst (WindowsWalked (asked (now (a .text)) (now (a .pattern)) (a .s)) (now (a .listing))) (c .walked2 .given .1) (c .before .before .check-windows .ensures)
 
 -- those found are windows, and there are few
 few : (c : tie.After-walked2) → let a = entry (c .before .before) .args in
@@ -38,8 +38,8 @@ few c =
       omega (arith, windows-small (a .s) _ (o .pre .shape)),
     )
 
-read-windows-requires : tie.Need-read-windows-requires
-read-windows-requires c κs = let p = c .before .before .before .pre in (p .shape, p .size)
+check-windows-requires : tie.Need-check-windows-requires
+check-windows-requires c κs = let p = c .before .before .before .pre in (p .shape, p .size)
 
 enum-known-walked : tie.Need-enum-known-walked
 enum-known-walked c = search needs
@@ -71,8 +71,8 @@ sub-refused c = few (c .before .before .before .before .before) .0
 cast-refused-2 : tie.Need-cast-refused-2
 cast-refused-2 c = omega (arith, few (c .before .before .before .before .before) .1)
 
-read-closing-requires : tie.Need-read-closing-requires
-read-closing-requires c κs = search needs
+check-closing-requires : tie.Need-check-closing-requires
+check-closing-requires c κs = search needs
 
 enum-known-last : tie.Need-enum-known-last
 enum-known-last c = search needs
@@ -84,7 +84,7 @@ returns : tie.Need-returns
 returns c =
     let a = entry (c .before .before .before) .args in
     stopped-answer (asked (now (a .text)) (now (a .pattern)) (a .s)) (now (a .listing)) (c .before .walked .given .0 .0)
-    (subst (WindowsWalked (asked (now (a .text)) (now (a .pattern)) (a .s)) (now (a .listing))) (c .before .walked .given .1) (c .before .before .before .read-windows .ensures))
+    (subst (WindowsWalked (asked (now (a .text)) (now (a .pattern)) (a .s)) (now (a .listing))) (c .before .walked .given .1) (c .before .before .before .check-windows .ensures))
 
 returns-2 : tie.Need-returns-2
 returns-2 c =
@@ -92,7 +92,7 @@ returns-2 c =
     let a = entry (w .before .before) .args in
     let p = passed w in
     closing-stopped (asked (now (a .text)) (now (a .pattern)) (a .s)) (now (a .listing)) _ _ (p .0) (p .1) _ refl
-    (c .before .last .given .0 .0) (sym (c .before .last .given .1) ∙ c .before .before .before .read-closing .ensures)
+    (c .before .last .given .0 .0) (sym (c .before .last .given .1) ∙ c .before .before .before .check-closing .ensures)
 
 returns-3 : tie.Need-returns-3
 returns-3 c =
@@ -100,13 +100,13 @@ returns-3 c =
     let a = entry (w .before .before) .args in
     let p = passed w in
     closing-kept (asked (now (a .text)) (now (a .pattern)) (a .s)) (now (a .listing)) _ _ (p .0) (p .1) _ refl
-    (c .enum-told .given .0 .0) (sym (c .enum-told .given .1) ∙ c .before .before .read-closing .ensures)
+    (c .enum-told .given .0 .0) (sym (c .enum-told .given .1) ∙ c .before .before .check-closing .ensures)
 
 pub check-listing-spec : {M : Type 1} → statement M
 check-listing-spec =
     tie.close
     (tie.spec
-    read-windows-requires
+    check-windows-requires
     enum-known-walked
     enum-known-walked-2
     add-windows
@@ -117,7 +117,7 @@ check-listing-spec =
     cast-refused
     sub-refused
     cast-refused-2
-    read-closing-requires
+    check-closing-requires
     enum-known-last
     enum-told
     returns

@@ -10,14 +10,14 @@ use borrow.Author.Needs.{needs}
 use denote.Ref.{now}
 use Rattle.theory.specs.Older.{Older}
 use Rattle.shapes.specs.Shapes.{across, down}
-use Rattle.grid.specs.Counts.Laws.{windows-small}
+use Rattle.counts.specs.Counts.Laws.{windows-small}
 use Rattle.matching.specs.Windows.{windowPlace}
 use Rattle.matching.specs.Windows.Laws.{window-first, window-next, step-asks}
 use Rattle.shapes.specs.Questions.{ask, asked}
-use Rattle.carrying.specs.Inheritance.{CheckTables}
+use Rattle.inheriting.specs.Inheritance.{CheckTables}
 use Rattle.claims.specs.declared.walks.Walk.the-variants.{Goes, Stops}
-use Rattle.verify.specs.Check.{entryFrom, windowsTo, foundTo}
-use Rattle.verify.specs.Entries.{goes-inside}
+use Rattle.rules.specs.Check.{entryFrom, windowsTo, foundTo}
+use Rattle.rules.specs.Entries.{goes-inside}
 use Rattle.verify.specs.Windows.{windows-none, found-none, windows-step, windows-stopped, found-step, found-le}
 use Rattle.verify.specs.Windows.{window-asks, tables-window, tables-place}
 use Rattle.verify.proofs.windows.walk_windows.Statement.{statement}
@@ -63,8 +63,8 @@ loop-holds c =
       o .pre .4,
     )
 
-read-entry-requires : tie.Need-read-entry-requires Inv-loop μ-loop
-read-entry-requires c κs =
+check-entry-requires : tie.Need-check-entry-requires Inv-loop μ-loop
+check-entry-requires c κs =
     let l = c .before .before .before .before .before in
     let o = l .before .before .before .before .before .before .before .before .before in
     let a = o .args in
@@ -86,7 +86,7 @@ halted : (c : tie.After-step Inv-loop μ-loop) →
     let l = c .before .before .before .before .before .before .before .before in
     let a = l .before .before .before .before .before .before .before .before .before .args in
     Stops (c .step .given .0 .0) ≡ entryFrom (now (a .text)) (now (a .pattern)) (l .loop .v) (now (a .listing)) (l .loop .at)
-halted c = sym (c .step .given .1) ∙ c .before .before .read-entry .ensures .0
+halted c = sym (c .step .given .1) ∙ c .before .before .check-entry .ensures .0
 
 returns : tie.Need-returns Inv-loop μ-loop
 returns c =
@@ -105,16 +105,16 @@ gone : (c : tie.After-step2 Inv-loop μ-loop) →
     let l = c .before .before .before .before .before .before .before .before in
     let a = l .before .before .before .before .before .before .before .before .before .args in
     Goes (c .step2 .given .0 .0) ≡ entryFrom (now (a .text)) (now (a .pattern)) (l .loop .v) (now (a .listing)) (l .loop .at)
-gone c = sym (c .step2 .given .1) ∙ c .before .before .read-entry .ensures .0
+gone c = sym (c .step2 .given .1) ∙ c .before .before .check-entry .ensures .0
 
-shared-slice-read-count-found : tie.Need-shared-slice-read-count-found Inv-loop μ-loop
-shared-slice-read-count-found c =
+shared-slice-read-found-after : tie.Need-shared-slice-read-found-after Inv-loop μ-loop
+shared-slice-read-found-after c =
     let l = c .before .before .before .before .before .before .before .before .before .before in
     let a = l .before .before .before .before .before .before .before .before .before .args in
     goes-inside (now (a .text)) (now (a .pattern)) (l .loop .v) (now (a .listing)) (l .loop .at) _ (gone (c .before .before))
 
-count-found-requires : tie.Need-count-found-requires Inv-loop μ-loop
-count-found-requires c κs =
+found-after-requires : tie.Need-found-after-requires Inv-loop μ-loop
+found-after-requires c κs =
     let l = c .before .before .before .before .before .before .before .before .before .before in
     let o = l .before .before .before .before .before .before .before .before .before in
     let a = o .args in
@@ -152,7 +152,7 @@ loop-again c =
     let l = c .before .before .before .before .before .before .before .before .before .before .before .before in
     let a = l .before .before .before .before .before .before .before .before .before .args in
     let i = l .loop in
-    let e = c .before .before .before .before .before .before .read-entry .ensures in
+    let e = c .before .before .before .before .before .before .check-entry .ensures in
     let g = gone (c .before .before .before .before) in (
       omega (arith, c .before .before .before .before .before .before .before .before .before .before .before .loop-test .taken),
       window-next (a .s .columns) (a .s .height) (a .s .width) (i .k) (i .v) _ (i .inv .1) (c .next-window .ensures),
@@ -160,7 +160,7 @@ loop-again c =
       e .1 .0,
       (λ rows. windows-step (ask (now (a .text)) rows (a .s .columns) (now (a .pattern)) (a .s .height) (a .s .width)) (now (a .listing)) (i .k) (i .at) (i .v) (i .inv .4 rows) (i .inv .1) _ g),
       (λ rows. found-step (ask (now (a .text)) rows (a .s .columns) (now (a .pattern)) (a .s .height) (a .s .width)) (now (a .listing)) (i .k) (i .at) (i .v) (i .inv .4 rows) (i .inv .1) (i .found) _ _ g
-          (i .inv .5 rows) (c .before .count-found .ensures)),
+          (i .inv .5 rows) (c .before .found-after .ensures)),
       tables-place _ _ _ _ _ (i .k) (i .v) _ _ _ (i .inv .1) (e .1 .1),
     )
 
@@ -183,12 +183,12 @@ walk-windows-spec =
     sub-n
     mul-n
     loop-holds
-    read-entry-requires
+    check-entry-requires
     enum-known-step
     returns
     enum-known-step-2
-    shared-slice-read-count-found
-    count-found-requires
+    shared-slice-read-found-after
+    found-after-requires
     next-window-requires
     add-base
     add-k

@@ -2,7 +2,7 @@
 -- listing (`listing-whole`).
 -- Assumes nothing.
 use denote.Ref.{now}
-use Rattle.writer.specs.Listing.Whole.{windows-room, closing-room, listing-whole}
+use Rattle.writer.specs.Whole.{windows-room, closing-room, listing-whole}
 use borrow.Author.Needs.{needs}
 use Rattle.writer.proofs.writing.write_listing.Statement.{statement}
 use Rattle.writer.proofs.writing.write_listing.Tie as tie

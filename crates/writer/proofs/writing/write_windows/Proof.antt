@@ -8,9 +8,9 @@ use mathlib.Core.List.{List}
 use lib.ListN.{length}
 use denote.Ref.{now}
 use Rattle.theory.specs.Older.Laws.{zeros-long}
-use Rattle.writer.specs.Listing.Whole.{pattern-fits}
+use Rattle.writer.specs.Whole.{pattern-fits}
 use Rattle.sets.specs.Symbols.Patterns.{listed-few}
-use Rattle.writer.specs.Listing.Strips.{pieces-length, windows-all}
+use Rattle.passes.specs.Strips.{pieces-length, windows-all}
 use borrow.Author.Needs.{needs}
 use Rattle.writer.proofs.writing.write_windows.Statement.{statement}
 use Rattle.writer.proofs.writing.write_windows.Tie as tie

@@ -1,0 +1,3 @@
+pub mod Accepted
+pub mod Examples
+pub mod Theorems

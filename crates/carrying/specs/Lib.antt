@@ -1,3 +1,0 @@
-pub mod Carries
-pub mod Inheritance
-pub mod Offsets

@@ -1,0 +1,2 @@
+// The bijection of a match, as its two columns.
+pub mod columns;

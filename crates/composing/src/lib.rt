@@ -1,0 +1,2 @@
+// One bijection after the other.
+pub mod compose;

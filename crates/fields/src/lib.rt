@@ -1,0 +1,2 @@
+// Records as numbers, for Rust and C.
+pub mod reader;

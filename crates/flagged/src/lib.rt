@@ -1,0 +1,2 @@
+// The flag of every window, strip by strip, which the search begins with.
+pub mod windows;

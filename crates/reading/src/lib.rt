@@ -1,0 +1,2 @@
+// The reader of a listing.
+pub mod reader;

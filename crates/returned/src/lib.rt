@@ -1,0 +1,3 @@
+// What the search and the check return to Rust and C.
+pub mod checking;
+pub mod searching;

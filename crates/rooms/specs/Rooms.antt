@@ -1,0 +1,14 @@
+-- By what the search is refused before it begins: the question, then the room for links, counts and flags.
+-- Assumes nothing.
+pub mod Laws
+use lib.Dec.{leb}
+use Rattle.theory.specs.Test.{both}
+use Rattle.refusals.specs.Said.{Said, _then_, check}
+use Rattle.shapes.specs.Questions.{Question, shapeSaid, linksNeeded, windowsOf}
+use Rattle.flags.specs.Flags.{Rooms}
+
+-- 2, 3, 4, 9, 10 in this order
+unfoldable pub roomSaid : Question → Rooms → Said
+roomSaid q r =
+    shapeSaid q then check (leb (linksNeeded q) (r .links)) 9 then check
+    (both (leb (windowsOf q) (r .counts)) (leb (windowsOf q) (r .flags))) 10

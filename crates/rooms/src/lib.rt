@@ -1,0 +1,2 @@
+// By what the search is refused before it begins.
+pub mod rooms;

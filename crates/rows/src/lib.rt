@@ -1,0 +1,3 @@
+// One row of a window against a pattern, symbol by symbol, with two tables of 256 positions.
+pub mod places;
+pub mod rows;

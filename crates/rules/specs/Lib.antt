@@ -1,0 +1,4 @@
+pub mod Check
+pub mod Rules
+pub mod Entries
+pub mod Theorems
