@@ -4,6 +4,7 @@
 //! `cargo run --release --offline -p bench`, after `rt staticlib exports` at the repository's top. With an argument
 //! only the classes are measured in whose names it stands: `cargo run --release --offline -p bench -- stripes`.
 
+mod aimed;
 mod bars;
 mod classes;
 mod heights;
@@ -58,7 +59,8 @@ fn search_table(part: &str) -> Vec<Line> {
     explain();
     head_search();
     let mut lines = Vec::new();
-    for class in classes::classes().into_iter().chain(hostile::classes()) {
+    let all = [classes::classes(), hostile::classes(), aimed::classes()];
+    for class in all.into_iter().flatten() {
         if class.name.contains(part) {
             let line = line(class);
             print_search(&line);
