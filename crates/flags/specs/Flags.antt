@@ -2,7 +2,7 @@
 -- distinct count and the links of its strip, and the two are the same (`flag-right`).
 -- Assumes nothing.
 pub mod Strips
-pub mod Lone
+pub mod Swept
 pub mod Laws
 use mathlib.Core.Path.{_≡_}
 use mathlib.Core.Bool.{Bool, true}

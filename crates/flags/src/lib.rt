@@ -1,3 +1,2 @@
-// The flags of windows that need no links: a strip's lone window, and all windows of a pattern of one row.
-pub mod lone;
-pub mod one_row;
+// The flags of a strip's windows down to a match below which links serve, or of all of them.
+pub mod swept;

@@ -31,7 +31,16 @@ fn own_end(
     let mut first = no_positions();
     let mut earlies = no_positions();
     first_places(pattern, &mut first);
-    own_ends(pattern, height, width, height, &first, selves, &mut earlies);
+    own_ends(
+        pattern,
+        height,
+        width,
+        height,
+        height,
+        &first,
+        selves,
+        &mut earlies,
+    );
     selves[k]
 }
 

@@ -7,21 +7,19 @@ ghost use Rattle.shapes.specs.Shapes.{across, down};
 ghost use Rattle.prefixes.specs.State.{FirstPlaces};
 ghost use Rattle.sets.specs.Symbols.{symbolsOf};
 ghost use Rattle.matching.specs.Compare.{patternAt};
-ghost use Rattle.sweep.specs.Sweep.{SweepAt};
+ghost use Rattle.sweep.specs.Sweep.{SweepAt, OwnSoFar};
 ghost use Rattle.listing.specs.Entries.Put.{Heads, Puts, startOf};
 ghost use Rattle.passes.specs.Windows.{Flagged};
 ghost use Rattle.passes.specs.Strips.{pieceOf, RefusedHere, RefusedIn};
 use entries::entries::strip_window;
 use entries::entries::write_refused;
-use grid::strips::Strip;
 use rows::places::no_positions;
 use shapes::shapes::Shape;
-use sweep::own::own_ends;
-use sweep::own::own_rows;
-use sweep::steps::next_end;
+use sweep::windows::window_end;
 
 // The records of the refused windows at column left. A found one has size bytes, which are written already; it is
-// passed over, and the run goes on below it.
+// passed over, and the run goes on below it. The pattern's own ends are made as far as a window asks for them, and the
+// next strip has them.
 fn write_strip(
     text: &[u8],
     pattern: &[u8],
@@ -30,8 +28,8 @@ fn write_strip(
     flags: &[u8],
     size: usize,
     first: &[usize; 256],
-    selves: &[usize; 256],
-    earlies: &[usize; 256],
+    selves: &mut [usize; 256],
+    earlies: &mut [usize; 256],
     heads: &mut [usize; 256],
     listing: &mut [u8],
 )
@@ -47,15 +45,10 @@ fn write_strip(
     ensures { λ r. ⌜
         Puts (pieceOf (now (text .entry)) (now (pattern .entry)) s) (down s * across s)
         (RefusedHere (now (flags .entry)) (across s) left (down s)) (now (listing .entry)) (now (listing .exit)) ⌝ }
+    ensures { λ r. ⌜ OwnSoFar (now (pattern .entry)) (s .width) (down s) (now (selves .exit)) (now (earlies .exit)) ⌝ }
 {
     let wide = s.columns + 1 - s.width;
     let tall = s.rows + 1 - s.height;
-    let t = Strip {
-        rows: s.rows,
-        columns: s.columns,
-        left,
-        width: s.width,
-    };
     let mut last = no_positions();
     let mut row = 0;
     let mut reached = 0;
@@ -67,10 +60,11 @@ fn write_strip(
             top += 1;
             continue;
         }
-        let r = next_end(
+        let r = window_end(
             text,
-            t,
             pattern,
+            s,
+            left,
             first,
             &mut last,
             selves,
@@ -78,7 +72,6 @@ fn write_strip(
             row,
             reached,
             top,
-            s.height,
         );
         let v = strip_window(s, left, top);
         heads[top] = write_refused(text, v, pattern, r.end, r.earlier, listing, at);
@@ -89,7 +82,7 @@ fn write_strip(
 }
 
 // The records of all refused windows. heads has the place of each row's first record, size is the length of a found
-// window's records.
+// window's records. The pattern's own ends are lent as far as they were made before, and are made on from there.
 pub fn write_strips(
     text: &[u8],
     pattern: &[u8],
@@ -97,12 +90,15 @@ pub fn write_strips(
     flags: &[u8],
     size: usize,
     first: &[usize; 256],
+    selves: &mut [usize; 256],
+    earlies: &mut [usize; 256],
     heads: &mut [usize; 256],
     listing: &mut [u8],
 )
     requires { ⌜
         Flagged (now text) (now pattern) s (now flags) × (size ≡ 3 + 3 * length (symbolsOf (now pattern)))
         × FirstPlaces (patternAt (now pattern)) (length (now pattern)) (now first)
+        × OwnSoFar (now pattern) (s .width) (down s) (now selves) (now earlies)
         × Heads (pieceOf (now text) (now pattern) s) (across s) (down s) 0 (now heads)
         × (startOf (pieceOf (now text) (now pattern) s) (down s * across s) ≤ length (now listing)) ⌝ }
     ensures { λ r. ⌜
@@ -111,18 +107,6 @@ pub fn write_strips(
         (now (listing .exit)) ⌝ }
 {
     let wide = s.columns + 1 - s.width;
-    let mut selves = no_positions();
-    let mut earlies = no_positions();
-    let n = own_rows(s.height, s.rows + 1 - s.height);
-    own_ends(
-        pattern,
-        s.height,
-        s.width,
-        n,
-        first,
-        &mut selves,
-        &mut earlies,
-    );
     let mut left = 0;
     while left < wide {
         write_strip(
@@ -133,8 +117,8 @@ pub fn write_strips(
             flags,
             size,
             first,
-            &selves,
-            &earlies,
+            selves,
+            earlies,
             heads,
             listing,
         );

@@ -1,6 +1,6 @@
 -- How far one window of a strip agrees with a pattern: what `reach` asks, and what it ensures. It is given a place up
--- to which the window is known to agree, and goes on from there: the sweep, which inherits, knows such a place, and the
--- first rows that the sieve looks at begin with none.
+-- to which the window is known to agree, and goes on from there: the sweep, which inherits, knows such a place, and a
+-- window of which nothing was read begins with none.
 -- Assumes nothing.
 pub mod Laws
 use mathlib.Core.List.{List}

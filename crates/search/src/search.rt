@@ -29,7 +29,7 @@ pub enum Searched {
 }
 
 // The search where nothing but the listing's room is left to ask: first the flags, then, where there is room for it,
-// the listing.
+// the listing. What the pattern says by itself is lent to both, so that neither makes again what the other made.
 fn search_windows(
     text: &[u8],
     pattern: &[u8],
@@ -51,7 +51,20 @@ fn search_windows(
     let mut first = no_positions();
     let mut listed = no_symbols();
     let symbols = read_pattern(pattern, &mut first, &mut listed);
-    flag_all(text, pattern, &first, symbols, s, links, counts, flags);
+    let mut selves = no_positions();
+    let mut earlies = no_positions();
+    flag_all(
+        text,
+        pattern,
+        &first,
+        &mut selves,
+        &mut earlies,
+        symbols,
+        s,
+        links,
+        counts,
+        flags,
+    );
     let totals = totals_of(pattern, symbols, flags, n);
     let found = totals.found;
     let refused = totals.refused;
@@ -66,6 +79,8 @@ fn search_windows(
         s,
         &listed[..d],
         &first,
+        &mut selves,
+        &mut earlies,
         found,
         refused,
         flags,

@@ -1,2 +1,2 @@
-// The cheap tests that a strip is asked before its links are found.
-pub mod wanted;
+// Which windows may match: the cheap test before a window is compared.
+pub mod pairs;

@@ -2,3 +2,4 @@
 // down the pattern itself.
 pub mod own;
 pub mod steps;
+pub mod windows;

@@ -16,7 +16,7 @@ pub struct Step {
 }
 
 // The first end of a window that agrees up to column j of row line of the strip.
-fn compared(
+pub fn compared(
     text: &[u8],
     s: Strip,
     pattern: &[u8],

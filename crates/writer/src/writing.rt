@@ -3,9 +3,11 @@ ghost use mathlib.Core.Path.{_≡_};
 ghost use Prim.Native.Nat.{_+_, _*_, _≤_};
 ghost use lib.ListN.{length};
 ghost use Rattle.shapes.specs.Questions.{asked};
+ghost use Rattle.shapes.specs.Shapes.{down};
 ghost use Rattle.refusals.specs.Said.{overFront};
 ghost use Rattle.theory.specs.Written.{written};
 ghost use Rattle.prefixes.specs.State.{FirstPlaces};
+ghost use Rattle.sweep.specs.Sweep.{OwnSoFar};
 ghost use Rattle.sets.specs.Symbols.{symbolsOf};
 ghost use Rattle.matching.specs.Compare.{patternAt};
 ghost use Rattle.entries.specs.Listing.{searchListing, foundIn, refusedIn};
@@ -26,12 +28,15 @@ fn write_windows(
     s: Shape,
     listed: &[u8],
     first: &[usize; 256],
+    selves: &mut [usize; 256],
+    earlies: &mut [usize; 256],
     flags: &[u8],
     listing: &mut [u8],
 ) -> usize
     requires { ⌜
         Flagged (now text) (now pattern) s (now flags) × (now listed ≡ symbolsOf (now pattern))
         × FirstPlaces (patternAt (now pattern)) (length (now pattern)) (now first)
+        × OwnSoFar (now pattern) (s .width) (down s) (now selves) (now earlies)
         × (length (windowBytes (now text) (now pattern) s) ≤ length (now listing)) ⌝ }
     ensures { λ r. ⌜ r ≡ length (windowBytes (now (text .entry)) (now (pattern .entry)) s) ⌝ }
     ensures { λ r. ⌜
@@ -52,18 +57,31 @@ fn write_windows(
         listing,
     );
     let size = 3 + 3 * listed.len();
-    write_strips(text, pattern, s, flags, size, first, &mut heads, listing);
+    write_strips(
+        text,
+        pattern,
+        s,
+        flags,
+        size,
+        first,
+        selves,
+        earlies,
+        &mut heads,
+        listing,
+    );
     end
 }
 
 // The second step of the search: the listing from the flags, where there is room for it, with the pattern's symbols,
-// rising, and their first places.
+// rising, and their first places, and its own ends as far as they were made before.
 pub fn write_listing(
     text: &[u8],
     pattern: &[u8],
     s: Shape,
     listed: &[u8],
     first: &[usize; 256],
+    selves: &mut [usize; 256],
+    earlies: &mut [usize; 256],
     found: u16,
     refused: u16,
     flags: &[u8],
@@ -74,12 +92,23 @@ pub fn write_listing(
         × (refused ≡ refusedIn (asked (now text) (now pattern) s))
         × (length (searchListing (asked (now text) (now pattern) s)) ≤ length (now listing))
         × (now listed ≡ symbolsOf (now pattern))
-        × FirstPlaces (patternAt (now pattern)) (length (now pattern)) (now first) ⌝ }
+        × FirstPlaces (patternAt (now pattern)) (length (now pattern)) (now first)
+        × OwnSoFar (now pattern) (s .width) (down s) (now selves) (now earlies) ⌝ }
     ensures { λ r. ⌜
         now (listing .exit) ≡ overFront (searchListing (asked (now (text .entry)) (now (pattern .entry)) s))
         (now (listing .entry)) ⌝ }
 {
-    let at = write_windows(text, pattern, s, listed, first, flags, listing);
+    let at = write_windows(
+        text,
+        pattern,
+        s,
+        listed,
+        first,
+        selves,
+        earlies,
+        flags,
+        listing,
+    );
     let closing = Record::Closing { found, refused };
     write_record(listing, at, closing);
 }

@@ -22,8 +22,8 @@ pub fn classes() -> Vec<Class> {
     all
 }
 
-/// One window of each strip agrees with the pattern in its first row, and none goes further: links are made of every
-/// strip, and next to nothing is compared.
+/// One window of each strip agrees with the pattern in its first row, and none goes further: links would cost more than
+/// what is compared.
 fn one_first_row() -> impl Iterator<Item = Class> {
     let sides = [
         (255, 128, 0),

@@ -2,7 +2,7 @@
 
 use crate::input::Input;
 use crate::plain;
-use colourway::{distinct_counts, strip_links, Buffers, Checked, SearchRefusal, Symbols, Totals};
+use colourway::{distinct_counts, strip_links, Buffers, Checked, SearchRefusal, Totals};
 use std::time::{Duration, Instant};
 
 /// Each class is measured at least so many times and at least so long.
@@ -119,9 +119,8 @@ pub fn compare(input: &Input) -> Searched {
 pub struct Walk {
     /// How many cells of a window it looks at, on average, as a share of the pattern's.
     pub share: f64,
-    /// The strips, by their first columns, that the proved search may make links of: those with a window that has as
-    /// many symbols as the pattern and agrees with it in its first row. The search looks at more than that, and links
-    /// fewer.
+    /// The strips, by their first columns, that the proved search makes links of: those in which a window matches that
+    /// has n more below it, and so does the one n rows above it (`links_serve` of crates/flags).
     linked: Vec<usize>,
 }
 
@@ -134,17 +133,21 @@ pub fn walk(input: &Input, searched: &Searched) -> Walk {
         None => cells,
         Some((i, j)) => usize::from(i) * input.width + usize::from(j) + 1,
     });
-    let size = Symbols::of(&input.pattern).size();
-    let wanted = |window: usize| {
-        u32::from(searched.full.counts[window]) == size
-            && !matches!(last(&mismatches[window]), Some((0, _)))
-    };
     let across = input.across();
+    let n = match input.height {
+        1 => input.rows,
+        height => (2 * input.rows / height).min(input.rows * input.width / 16),
+    };
+    let links_serve = |left: usize| {
+        let found = |top: usize| searched.full.flags[top * across + left] == 1;
+        (2 * n + input.height..=input.rows).any(|end| {
+            let top = end - n - input.height;
+            found(top) && found(top - n)
+        })
+    };
     Walk {
         share: looked_at.sum::<usize>() as f64 / (mismatches.len() * cells) as f64,
-        linked: (0..across)
-            .filter(|left| (*left..mismatches.len()).step_by(across).any(wanted))
-            .collect(),
+        linked: (0..across).filter(|left| links_serve(*left)).collect(),
     }
 }
 

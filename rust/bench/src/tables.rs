@@ -43,8 +43,7 @@ rounds buffers are not cleared: neither program needs it.
 walked is the share of the pattern's cells that the plain program looks at in a window, on average.
 The proved search's phases:
   counts   the distinct counts, by that operation alone
-  links    the links, by that operation alone, of the strips with a window that has as many symbols as the pattern and
-           agrees with it in its first row; the search itself looks at more, and may link fewer
+  links    the links, by that operation alone, of the strips of which the search makes them
   flags    a search refused by 11 for want of one byte, less counts and links
   writing  the whole search, less the refused one
 The last two are differences of times measured apart, so a small one may come out below 0.

@@ -25,7 +25,7 @@ use Rattle.shapes.specs.Shapes.{ShapeOf}
 use Rattle.shapes.specs.declared.shapes.Shape.{Shape}
 use Rattle.matching.specs.Compare.{patternAt}
 use Rattle.flags.specs.Observations.{flag-match}
-use Rattle.flags.specs.Flags.{windowFlag, linkAgrees, linksAgree, flagBy, Room}
+use Rattle.flags.specs.Flags.{windowFlag, linkAgrees, linksAgree, flagBy}
 
 -- ---- a strip
 

@@ -56,6 +56,23 @@ pub ready-still : {text pattern : List ℕ} {symbols : ℕ} {s : Shape} {counts 
     → links′ ≡ links → flags′ ≡ flags → Ready text pattern symbols s counts links′ flags′
 ready-still r e f = rw (e, f) r
 
+-- the same with a links buffer that just fits: where no links are made its length is no matter
+pub ready-fitting : {text pattern : List ℕ} {symbols : ℕ} {s : Shape} {counts : List ℕ} {links flags : ℕ}
+    → Ready text pattern symbols s counts links flags
+    → Ready text pattern symbols s counts (s .rows * s .width) flags
+ready-fitting r =
+    record {
+      room = record {
+        shape = r .room .shape;
+        size = r .room .size;
+        links-room = omega arith;
+        counts-room = r .room .counts-room;
+        flags-room = r .room .flags-room;
+      };
+      symbols-is = r .symbols-is;
+      counts-are = r .counts-are;
+    }
+
 -- the flag by the first end is the flag
 end-flag : (m w : ℕ → ℕ) (n : ℕ)
     → _≡_ {A = ℕ} (pick (ltb (firstEnd m w n) n) 0 1) (pick (isMatch (answerOf m w n)) 1 0)

@@ -20,6 +20,7 @@ use Rattle.cells.specs.Windows.Laws.{window-strip}
 use Rattle.cells.specs.declared.windows.WindowPlace.{WindowPlace}
 use Rattle.matching.specs.Compare.{patternAt, windowOf, cellCount}
 use Rattle.prefixes.specs.Prefixes.{suffix}
+use Rattle.sweep.specs.Sweep.{SidesOf, OwnMismatches}
 use Rattle.inheriting.specs.Carries.{Carried}
 use Rattle.inheriting.specs.Offsets.{cornerOf, imageBehind, Offsets}
 use Rattle.cells.specs.Windows.Laws.{offset-at}
@@ -47,6 +48,12 @@ follows-carried text v pattern offsets n leads le follows = record { carries = g
         ap (λ (x : ℕ). getD text (cornerOf v + x) 0) (leads .lead p (omega arith))
         ∙ offset-at text (v .columns) (v .row) (v .column) (v .width) q
         ∙ follows .same q p (omega (arith, f .0)) h (f .1)
+
+-- own ends of all rows are those of the whole pattern, which has no other cells
+pub own-ends-all : (pattern : List ℕ) (height width : ℕ) (selves earlies : List ℕ) → SidesOf pattern height width
+    → OwnMismatches pattern width (height * width) height selves earlies → OwnEndsMade pattern height width selves
+own-ends-all pattern height width selves earlies sides owns =
+    record { long = owns .selves-long; each = λ k h. rw (sides .cells) (owns .each k h .end-is) }
 
 -- ---- the window below
 

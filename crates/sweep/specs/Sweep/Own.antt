@@ -2,12 +2,12 @@
 -- of a window of it, from row k on, is the pattern's own end k. Row 0 is the pattern, which has no mismatch with
 -- itself.
 -- Assumes nothing.
-use mathlib.Core.Path.{_≡_, sym, _∙_, ap, refl, subst, fun-ext}
+use mathlib.Core.Path.{_≡_, sym, _∙_, ap, refl, fun-ext}
 use mathlib.Core.List.{List}
 use Prim.Native.Nat.{ℕ, _+_, _-_, _*_, _/_, _%_, _≤_, _<_, zero, suc}
 use native.Mathlib.Nat.{add-mul, mod-lt, div-add-mod', zero-mul, one-mul, mul-le-mul-right}
 use native.Mathlib.Omega.{arith}
-use lib.ListN.{length, getD, set, length-set}
+use lib.ListN.{length, getD, set, replicate, length-set}
 use Rattle.grid.specs.Strips.{StripOf, stripSymbols}
 use Rattle.grid.specs.declared.strips.Strip.{Strip}
 use Rattle.prefixes.specs.Prefixes.{suffix}
@@ -20,24 +20,26 @@ use lib.Seq.{getD-set-same, getD-set-other}
 use Rattle.theory.specs.Test.{pick, Tested, holds, fails}
 use Rattle.theory.specs.Test.Laws.{eq-tested, lt-tested}
 use Rattle.theory.specs.Older.{Older}
+use Rattle.theory.specs.Older.Laws.{zeros-at, zeros-long}
 use Rattle.shapes.specs.Shapes.{Side, down}
 use Rattle.prefixes.specs.Prefixes.Ends.{ends-nowhere, self-end}
 use Rattle.reach.specs.Reach.Laws.{strip-cell}
-use Rattle.sweep.specs.Sweep.{RunAt, OwnEndIs, NextAt, NextIs, SidesOf, OwnMismatches, ownRows}
+use Rattle.sweep.specs.Sweep.{RunAt, OwnEndIs, NextAt, NextIs, SidesOf, OwnMismatches, OwnSoFar, ownRows}
 
 -- the pattern as a strip
 abbrev pub ownStrip : ℕ → ℕ → Strip
 ownStrip height width = record { rows = height; columns = width; left = 0; width = width }
 
 -- the run over the pattern itself stands before row top
-pub record OwnRun (pattern : List ℕ) (height width : ℕ) (last selves earlies : List ℕ) (row reached top : ℕ) : Type 0
-  where
-    pub below : 1 ≤ row
-    pub rows-le : top ≤ height
-    pub run : RunAt pattern (ownStrip height width) pattern last row reached top (height - top)
-    pub owns : OwnMismatches pattern width top selves earlies
+pub record OwnRun (pattern : List ℕ) (height width rows : ℕ) (last selves earlies : List ℕ) (row reached top : ℕ)
+    : Type 0 where
+  pub below : 1 ≤ row
+  pub rows-le : top ≤ rows
+  pub run : RunAt pattern (ownStrip height width) pattern last row reached top (rows - top)
+  pub owns : OwnMismatches pattern width (rows * width) top selves earlies
 
-module _ (pattern : List ℕ) (height width : ℕ) (sides : SidesOf pattern height width) where
+module _ (pattern : List ℕ) (height width rows : ℕ) (sides : SidesOf pattern height width) (some : 1 ≤ rows)
+    (few : rows ≤ height) where
   pub own-strip-of : StripOf (ownStrip height width) (length pattern)
   own-strip-of =
       let tall : Side height = record { positive = sides .tall; small = sides .height-le } in
@@ -66,46 +68,55 @@ module _ (pattern : List ℕ) (height width : ℕ) (sides : SidesOf pattern heig
   own-symbols = fun-ext own-symbol
 
   -- how many positions a window from row top on has
-  own-left : (top : ℕ) → top ≤ height → (height - top) * width ≡ length pattern - top * width
+  own-left : (top : ℕ) → top ≤ rows → (rows - top) * width ≡ rows * width - top * width
   own-left top h =
-      let e : top + (height - top) ≡ height = omega arith in
-      let f : (top + (height - top)) * width ≡ height * width = ap (λ (x : ℕ). x * width) e in
-      omega (arith, add-mul top (height - top) width, sides .cells)
+      let e : top + (rows - top) ≡ rows = omega arith in
+      let f : (top + (rows - top)) * width ≡ rows * width = ap (λ (x : ℕ). x * width) e in
+      omega (arith, add-mul top (rows - top) width)
 
-  own-whole : (top : ℕ) → top ≤ height → (top + (height - top)) * width ≡ height * width
-  own-whole top h = let e : top + (height - top) ≡ height = omega arith in ap (λ (x : ℕ). x * width) e
+  own-whole : (top : ℕ) → top ≤ rows → (top + (rows - top)) * width ≡ rows * width
+  own-whole top h = let e : top + (rows - top) ≡ rows = omega arith in ap (λ (x : ℕ). x * width) e
 
-  self-whole : OwnEndIs pattern (0 * width) (length pattern) 0
+  -- as many positions as the rows have, and no more than the pattern
+  pub own-cells-le : rows * width ≤ length pattern
+  own-cells-le = omega (arith, mul-le-mul-right width few, sides .cells)
+
+  self-whole : OwnEndIs pattern (rows * width) (0 * width) (rows * width) 0
   self-whole =
       let z : 0 * width ≡ 0 = zero-mul width in
-      let n : length pattern - 0 * width ≡ length pattern = omega arith in
+      let n : rows * width - 0 * width ≡ rows * width = omega arith in
       let e : suffix (λ k. getD pattern k 0) (0 * width)
       ≡ (λ k. getD pattern k 0) = fun-ext (λ p. ap (λ (k : ℕ). getD pattern k 0) (omega arith)) in
-      ends-nowhere _ _ (length pattern - 0 * width) (length pattern) 0
-      (rw (e, n) (self-end (λ k. getD pattern k 0) (length pattern))) (omega arith) refl
+      ends-nowhere _ _ (rows * width - 0 * width) (rows * width) 0
+      (rw (e, n) (self-end (λ k. getD pattern k 0) (rows * width))) (omega arith) refl
 
   pub own-first : (last selves earlies : List ℕ) → Older 1 last → length selves ≡ 256 → length earlies ≡ 256
-      → OwnRun pattern height width last (set selves 0 (length pattern)) (set earlies 0 0) 1 width 1
+      → OwnRun pattern height width rows last (set selves 0 (rows * width)) (set earlies 0 0) 1 width 1
   own-first last selves earlies o ls le =
       let one : 1 * width ≡ width = one-mul width in
       record {
         below = omega arith;
-        rows-le = sides .tall;
+        rows-le = some;
         run = record {
           past = omega arith;
           fits = omega arith;
-          within = omega (arith, own-whole 1 (sides .tall), mul-le-mul-right width (sides .tall));
+          within = omega (arith, own-whole 1 some, mul-le-mul-right width some);
           swept =
               rw one (swept-none (λ k. getD pattern k 0) (stripSymbols pattern (ownStrip height width)) width last
               (record { long = o .long; below = λ i. omega (arith, o .below i) }));
         };
-        owns = record { selves-long = rw length-set ls; earlies-long = rw length-set le; each = λ k h. each k h };
+        owns = record {
+          selves-long = rw length-set ls;
+          earlies-long = rw length-set le;
+          whole = getD-set-same selves 0 (rows * width) 0 (omega arith);
+          each = λ k h. each k h;
+        };
       }
     where
-      each : (k : ℕ) → k < 1 → OwnEndIs pattern (k * width) (getD (set selves 0 (length pattern)) k 0)
+      each : (k : ℕ) → k < 1 → OwnEndIs pattern (rows * width) (k * width) (getD (set selves 0 (rows * width)) k 0)
           (getD (set earlies 0 0) k 0)
       each zero h =
-          rw (getD-set-same selves 0 (length pattern) 0 (omega arith), getD-set-same earlies 0 0 0 (omega arith))
+          rw (getD-set-same selves 0 (rows * width) 0 (omega arith), getD-set-same earlies 0 0 0 (omega arith))
           self-whole
       each (suc k) h = absurd (none h)
         where
@@ -113,25 +124,29 @@ module _ (pattern : List ℕ) (height width : ℕ) (sides : SidesOf pattern heig
           none h = omega arith
 
   module _ (first last selves earlies : List ℕ) (row reached top : ℕ)
-      (places : FirstPlaces (λ k. getD pattern k 0) (length pattern) first) (inside : top < height)
-      (here : OwnRun pattern height width last selves earlies row reached top) where
+      (places : FirstPlaces (λ k. getD pattern k 0) (length pattern) first) (inside : top < rows)
+      (here : OwnRun pattern height width rows last selves earlies row reached top) where
     pub own-asks :
-        NextAt pattern (ownStrip height width) pattern first last selves earlies row reached top (height - top)
+        NextAt pattern (ownStrip height width) pattern first last selves earlies row reached top (rows - top)
     own-asks =
         record {
           strip = own-strip-of;
           down = omega arith;
-          cells = omega (arith, own-left top (here .rows-le));
+          cells = omega (arith, own-left top (here .rows-le), own-cells-le);
           places = places;
           run = here .run;
           selves-long = here .owns .selves-long;
           earlies-long = here .owns .earlies-long;
-          self = λ _. here .owns .each (top - row) (omega (arith, here .below));
+          self = λ _. record {
+            cells = rows * width;
+            enough = omega (arith, here .run .within, own-whole top (here .rows-le));
+            own-end = here .owns .each (top - row) (omega (arith, here .below));
+          };
         }
 
     pub own-more : (r : Step) (last′ : List ℕ)
-        → NextIs pattern (ownStrip height width) pattern row top (height - top) r last′
-        → OwnRun pattern height width last′ (set selves top (r .end)) (set earlies top (r .earlier)) (r .row)
+        → NextIs pattern (ownStrip height width) pattern row top (rows - top) r last′
+        → OwnRun pattern height width rows last′ (set selves top (r .end)) (set earlies top (r .earlier)) (r .row)
         (r .reached) (top + 1)
     own-more r last′ got =
         record {
@@ -148,21 +163,25 @@ module _ (pattern : List ℕ) (height width : ℕ) (sides : SidesOf pattern heig
                 selves-long = rw length-set (here .owns .selves-long);
                 earlies-long = rw length-set
                     (here .owns .earlies-long);
+                whole = getD-set-other selves top 0 (r .end) 0 (λ e. first-done e) ∙ here .owns .whole;
                 each = λ k h. each k h (eq-tested k top);
               };
         }
       where
-        this : OwnEndIs pattern (top * width) (r .end) (r .earlier)
+        first-done : 0 ≡ top → ⊥
+        first-done e = omega (arith, here .below, here .run .past)
+
+        this : OwnEndIs pattern (rows * width) (top * width) (r .end) (r .earlier)
         this = rw (own-symbols, own-left top (here .rows-le)) at (got .end)
 
         each : (k : ℕ) {t : Bool} → k < top + 1 → Tested (k ≡ top) t
-            → OwnEndIs pattern (k * width) (getD (set selves top (r .end)) k 0)
+            → OwnEndIs pattern (rows * width) (k * width) (getD (set selves top (r .end)) k 0)
             (getD (set earlies top (r .earlier)) k 0)
         each k h (holds e) =
             rw (
               e,
-              getD-set-same selves top (r .end) 0 (omega (arith, here .owns .selves-long, sides .height-le)),
-              getD-set-same earlies top (r .earlier) 0 (omega (arith, here .owns .earlies-long, sides .height-le)),
+              getD-set-same selves top (r .end) 0 (omega (arith, here .owns .selves-long, sides .height-le, few)),
+              getD-set-same earlies top (r .earlier) 0 (omega (arith, here .owns .earlies-long, sides .height-le, few)),
             )
             this
         each k h (fails d) =
@@ -170,11 +189,13 @@ module _ (pattern : List ℕ) (height width : ℕ) (sides : SidesOf pattern heig
             (here .owns .each k (omega arith))
 
   pub own-all : (last selves earlies : List ℕ) (row reached top n : ℕ) → n ≤ top
-      → OwnRun pattern height width last selves earlies row reached top → OwnMismatches pattern width n selves earlies
+      → OwnRun pattern height width rows last selves earlies row reached top
+      → OwnMismatches pattern width (rows * width) n selves earlies
   own-all last selves earlies row reached top n h here =
       record {
         selves-long = here .owns .selves-long;
         earlies-long = here .owns .earlies-long;
+        whole = here .owns .whole;
         each = λ k b. here .owns .each k (omega arith);
       }
 
@@ -196,6 +217,42 @@ own-rows-in height windows k a b = go (ltb windows height)
     go true = b
     go false = a
 
-pub owns-as : (pattern : List ℕ) (width n m : ℕ) (selves earlies : List ℕ) → n ≡ m
-    → OwnMismatches pattern width n selves earlies → OwnMismatches pattern width m selves earlies
-owns-as pattern width n m selves earlies e h = subst (λ (k : ℕ). OwnMismatches pattern width k selves earlies) e h
+-- so many positions lie in so many rows and one more
+pub rows-cover : (x y width : ℕ) → 0 < width → y ≤ (x + y) / width * width + width
+rows-cover x y width h = omega (arith, div-add-mod' (x + y) width, mod-lt (x + y) h)
+
+-- ---- as far as they were made
+
+-- own ends of so many rows, for strips of so many windows
+pub own-made : (pattern : List ℕ) (width rows windows : ℕ) (selves earlies : List ℕ) → rows * width ≤ length pattern
+    → OwnMismatches pattern width (rows * width) (ownRows rows windows) selves earlies
+    → OwnSoFar pattern width windows selves earlies
+own-made pattern width rows windows selves earlies few h =
+    record {
+      selves-long = h .selves-long;
+      earlies-long = h .earlies-long;
+      within = omega (arith, h .whole);
+      each = λ k l b. rw (h .whole) (h .each k (own-rows-in rows windows k (inside k (rw (h .whole) at b)) l));
+    }
+  where
+    inside : (k : ℕ) → k * width < rows * width → k < rows
+    inside k b =
+        let over : rows ≤ k → ⊥ = λ x. omega (arith, mul-le-mul-right width x) in
+        omega arith
+
+-- none was made yet
+pub own-unmade : (pattern : List ℕ) (width windows : ℕ) (selves earlies : List ℕ) → selves ≡ replicate 256 0
+    → earlies ≡ replicate 256 0 → OwnSoFar pattern width windows selves earlies
+own-unmade pattern width windows selves earlies e f =
+    record {
+      selves-long = zeros-long selves e;
+      earlies-long = zeros-long earlies f;
+      within = omega (arith, none);
+      each = λ k l b. absurd (over k b);
+    }
+  where
+    none : getD selves 0 0 ≡ 0
+    none = rw e (zeros-at 256 0)
+
+    over : (k : ℕ) → k * width < getD selves 0 0 → ⊥
+    over k b = omega (arith, none)

@@ -6,7 +6,7 @@ use mathlib.Core.List.{List}
 use Prim.Native.Nat.{ℕ, _+_, _-_, _*_, _/_, _%_, _≤_, _<_}
 use native.Mathlib.Nat.{add-zero, add-mul, mod-lt, div-add-mod'}
 use native.Mathlib.Omega.{arith}
-use lib.ListN.{length, getD}
+use lib.ListN.{getD}
 use Rattle.shapes.specs.Shapes.Laws.{product-le}
 use Rattle.grid.specs.Strips.{stripSymbols}
 use Rattle.grid.specs.declared.strips.Strip.{Strip}
@@ -15,7 +15,8 @@ use Rattle.prefixes.specs.State.{Swept}
 use Rattle.prefixes.specs.State.Laws.{swept-past, swept-lower}
 use Rattle.reach.specs.Reach.{ReachAt, Reached}
 use Rattle.shapes.specs.Shapes.{down}
-use Rattle.sweep.specs.Sweep.{OwnEndIs, NextAt, NextIs}
+use Rattle.sweep.specs.declared.steps.Step.{Step}
+use Rattle.sweep.specs.Sweep.{OwnKnown, NextAt, NextIs}
 
 -- a window that was compared
 module _ (text : List ℕ) (s : Strip) (pattern first last₀ : List ℕ) (top height line j : ℕ)
@@ -36,6 +37,12 @@ module _ (text : List ℕ) (s : Strip) (pattern first last₀ : List ℕ) (top h
             };
         end = got .end;
       }
+
+-- and was said to be below another one
+pub next-since : (text : List ℕ) (s : Strip) (pattern : List ℕ) (row top height : ℕ) (r : Step) (last : List ℕ)
+    → row ≤ top → NextIs text s pattern top top height r last → NextIs text s pattern row top height r last
+next-since text s pattern row top height r last h got =
+    record { since = omega (arith, got .since); run = got .run; end = got .end }
 
 module _ (text : List ℕ) (s : Strip) (pattern first last selves earlies : List ℕ) (row reached top height : ℕ)
     (asked : NextAt text s pattern first last selves earlies row reached top height) where
@@ -77,11 +84,14 @@ module _ (text : List ℕ) (s : Strip) (pattern first last selves earlies : List
 
   module _ (under : top * s .width < reached) (f g : ℕ) (ef : f ≡ getD selves (top - row) 0)
       (eg : g ≡ getD earlies (top - row) 0) where
-    self-is : OwnEndIs pattern ((top - row) * s .width) f g
-    self-is = rw (ef, eg) (asked .self under)
+    self-known : OwnKnown pattern (reached - row * s .width) ((top - row) * s .width) f g
+    self-known = rw (ef, eg) (asked .self under)
 
-    self-fits : reached ≤ row * s .width + (top - row) * s .width + (length pattern - (top - row) * s .width)
-    self-fits = omega (arith, asked .run .fits)
+    abbrev ownCells : ℕ
+    ownCells = self-known .cells - (top - row) * s .width
+
+    self-fits : reached ≤ row * s .width + (top - row) * s .width + ownCells
+    self-fits = omega (arith, self-known .enough)
 
     -- its first end is the pattern's own
     pub next-inherited : top * s .width + f < reached
@@ -93,7 +103,7 @@ module _ (text : List ℕ) (s : Strip) (pattern first last selves earlies : List
           end = rw rows-apart at
               (inherited-end _ (stripSymbols text s) (row * s .width) reached ((top - row) * s .width)
               (asked .run .swept .clear)
-              (length pattern - (top - row) * s .width) f (self-is .end-is) self-fits (height * s .width) g self-is
+              ownCells f (self-known .own-end .end-is) self-fits (height * s .width) g (self-known .own-end)
               (omega (arith, rows-apart))
               (omega (arith, rows-apart, asked .run .within, add-mul top height (s .width))));
         }
@@ -106,5 +116,5 @@ module _ (text : List ℕ) (s : Strip) (pattern first last selves earlies : List
         asks (reached / s .width) (reached % s .width) (mod-lt reached wide) (omega (arith, asked .run .within))
         (rw e (rw rows-apart at
         (swept-lower _ (stripSymbols text s) (row * s .width) reached ((top - row) * s .width)
-        (length pattern - (top - row) * s .width) f last (asked .run .swept) (self-is .end-is) self-fits
+        ownCells f last (asked .run .swept) (self-known .own-end .end-is) self-fits
         (omega (arith, rows-apart)) (omega (arith, rows-apart)))))

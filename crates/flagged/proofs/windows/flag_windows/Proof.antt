@@ -10,18 +10,21 @@ use denote.Ref.{now}
 use Rattle.theory.specs.Store.{storedRows}
 use Rattle.theory.specs.Store.Laws.{rows-none, length-rows, rows-more}
 use Rattle.shapes.specs.Shapes.{across, down}
+use Rattle.sweep.specs.Sweep.{OwnSoFar}
+use Rattle.sweep.specs.Sweep.Runs.{sweep-with}
 use Rattle.flags.specs.Flags.Strips.{flagOf, ready-still}
 use Rattle.flagging.specs.Links.{RestKept, kept-same, kept-then}
 use Rattle.flagged.proofs.windows.flag_windows.Statement.{statement}
 use Rattle.flagged.proofs.windows.flag_windows.Tie as tie
 
 abbrev Inv-loop : tie.InvT-loop
-Inv-loop text pattern first selves earlier later symbols s counts links₀ flags₀ wide left₀ links flags left =
+Inv-loop text pattern first selves₀ earlies₀ earlier later symbols s counts links₀ flags₀ wide left₀ selves earlies links flags left =
     (left ≤ wide) × (flags ≡ storedRows (flagOf text pattern s) (λ left top. top * across s + left) left (down s)
-    flags₀) × RestKept (s .rows * s .width) links₀ links
+    flags₀) × RestKept (s .rows * s .width) links₀ links × OwnSoFar pattern (s .width) (down s) selves earlies
 
 abbrev μ-loop : tie.MeasureT-loop
-μ-loop text pattern first selves earlier later symbols s counts links₀ flags₀ wide left₀ links flags left = wide - left
+μ-loop text pattern first selves₀ earlies₀ earlier later symbols s counts links₀ flags₀ wide left₀ selves earlies links flags left =
+    wide - left
 
 length-flags : (c : tie.At-loop Inv-loop μ-loop)
     → length (c .loop .flags) ≡ length (now
@@ -40,30 +43,31 @@ sub-across : tie.Need-sub-across Inv-loop μ-loop
 sub-across c = omega arith
 
 loop-holds : tie.Need-loop-holds Inv-loop μ-loop
-loop-holds c = (omega arith, sym (rows-none _ _ _ _), kept-same _ _)
+loop-holds c = (omega arith, sym (rows-none _ _ _ _), kept-same _ _, c .before .before .before .before .before .before .before .pre .1 .owns)
 
 flag-column-requires : tie.Need-flag-column-requires Inv-loop μ-loop
 flag-column-requires c κs =
-    let l = c .before .before .before in
-    let o = c .before .before .before .before .before .before .before .before .before .before .before in
-    (ready-still (o .pre .0) (l .loop .inv .2 .long) (length-flags l), c .before .before .loop-test .taken, o .pre .1, o .pre .2)
+    let l = c .before .before .before .before .before in
+    let o = c .before .before .before .before .before .before .before .before .before .before .before .before .before in
+    let taken = c .before .before .before .before .loop-test .taken in
+    (ready-still (o .pre .0) (l .loop .inv .2 .long) (length-flags l), taken, sweep-with _ _ _ _ _ _ _ (o .pre .1) taken _ _ (l .loop .inv .3), o .pre .2)
 
 add-left : tie.Need-add-left Inv-loop μ-loop
-add-left c = omega (arith, c .before .before .before .before .before .before .before .loop-test .taken, c .before .before .before .before .before .before .before .before .before .before .before .before .before .before .before .before .pre .0 .room .shape)
+add-left c = omega (arith, c .before .before .before .before .before .before .before .before .before .loop-test .taken, c .before .before .before .before .before .before .before .before .before .before .before .before .before .before .before .before .before .before .pre .0 .room .shape)
 
 loop-less : tie.Need-loop-less Inv-loop μ-loop
-loop-less c = omega arith
+loop-less c = omega (arith, c .before .before .before .before .before .before .before .before .before .loop-test .taken)
 
 loop-again : tie.Need-loop-again Inv-loop μ-loop
 loop-again c =
-    let a = c .before .before .before .before .before .before .before .before .before .before .before .before .before
-    .before .before .before .args in
-    let i = c .before .before .before .before .before .before .before .before .loop in
+    let a = c .before .before .before .before .before .before .before .before .before .before .before .before .before .before .before .before .before .before .args in
+    let i = c .before .before .before .before .before .before .before .before .before .before .loop in
     let e = c .before .before .before .before .flag-column .ensures in (
-      omega arith,
+      omega (arith, c .before .before .before .before .before .before .before .before .before .loop-test .taken),
       rw (add-one (i .left)) (rows-more (flagOf (now (a .text)) (now (a .pattern)) (a .s))
           (λ left top. top * across (a .s) + left) _ _ _ _ _ (i .inv .1) (e .0)),
-      kept-then _ _ _ _ (i .inv .2) (e .1),
+      kept-then _ _ _ _ (i .inv .2) (e .1 .0),
+      e .1 .1,
     )
 
 same-length : tie.Need-same-length Inv-loop μ-loop
@@ -73,7 +77,7 @@ same-length-2 : tie.Need-same-length-2 Inv-loop μ-loop
 same-length-2 c = length-flags (c .before)
 
 returns : tie.Need-returns Inv-loop μ-loop
-returns c = (rw (all c) at (c .before .loop .inv .1), c .before .loop .inv .2)
+returns c = let v = c .before .loop .inv in (rw (all c) at (v .1), (v .2, v .3))
 
 pub flag-windows-spec : {M : Type 1} → statement M
 flag-windows-spec =

@@ -1,6 +1,8 @@
--- `inherit::own_end` meets its contract: the own ends are made already, or `own_ends` makes them with the first places.
+-- `inherit::own_end` meets its contract: the own ends are made already, or `own_ends` makes them with the first places,
+-- of all rows, which are the whole pattern (`own-ends-all`).
 -- Assumes nothing.
 use borrow.Author.Needs.{needs}
+use Rattle.inheriting.specs.Inheritance.Laws.{own-ends-all}
 use Rattle.inheriting.proofs.inherit.own_end.Statement.{statement}
 use Rattle.inheriting.proofs.inherit.own_end.Tie as tie
 
@@ -40,8 +42,8 @@ element-copy-out-result-2 c = search needs
 returns-2 : tie.Need-returns-2
 returns-2 c =
     let o = c .before .before .before .before .before .before .before .before .before .before .before .before in
-    let e = c .before .own-ends .ensures in
-    (e .each (o .args .k) (o .pre .2) .end-is, record { long = e .selves-long; each = λ k h. e .each k h .end-is })
+    let m = own-ends-all _ _ _ _ _ (o .pre .0) (c .before .own-ends .ensures) in
+    (m .each (o .args .k) (o .pre .2), m)
 
 pub own-end-spec : {M : Type 1} → statement M
 own-end-spec =

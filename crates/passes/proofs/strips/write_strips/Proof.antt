@@ -1,34 +1,30 @@
--- `strips::write_strips` meets its contract. The invariant: each row has come to its place in column left, and the
--- refused windows of the strips before are written.
+-- `strips::write_strips` meets its contract. The invariant: the own ends are right as far as they are made, each row
+-- has come to its place in column left, and the refused windows of the strips before are written.
 -- Assumes nothing.
 use mathlib.Core.Path.{_≡_, subst}
 use native.Mathlib.Omega.{arith}
 use Prim.Native.Nat.{ℕ, _-_, _*_, _≤_}
 use denote.Ref.{now}
-use borrow.Author.Needs.{needs}
-use Rattle.theory.specs.Older.Laws.{zeros-long}
 use Rattle.shapes.specs.Shapes.{across, down}
 use Rattle.sweep.specs.Sweep.{SweepAt}
-use Rattle.sweep.specs.Sweep.Own.{own-rows-le, owns-as}
-use Rattle.sweep.specs.Sweep.Runs.{sides-of}
+use Rattle.sweep.specs.Sweep.Runs.{sweep-with}
 use Rattle.listing.specs.Entries.Put.{Puts, Heads}
 use Rattle.passes.specs.Strips.{pieceOf, RefusedIn, columns-none, columns-more}
 use Rattle.passes.proofs.strips.write_strips.Statement.{statement}
 use Rattle.passes.proofs.strips.write_strips.Tie as tie
 
 abbrev Inv-loop : tie.InvT-loop
-Inv-loop text pattern s flags size first heads₀ listing₀ wide selves earlies n left₀ heads listing left =
+Inv-loop text pattern s flags size first selves₀ earlies₀ heads₀ listing₀ wide left₀ selves earlies heads listing left =
     (left ≤ wide) × SweepAt text s pattern first selves earlies
     × Heads (pieceOf text pattern s) (across s) (down s) left heads ×
     Puts (pieceOf text pattern s) (down s * across s) (RefusedIn flags (across s) (down s) left) listing₀ listing
 
 abbrev μ-loop : tie.MeasureT-loop
-μ-loop text pattern s flags size first heads₀ listing₀ wide selves earlies n left₀ heads listing left = wide - left
+μ-loop text pattern s flags size first selves₀ earlies₀ heads₀ listing₀ wide left₀ selves earlies heads listing left =
+    wide - left
 
 abbrev entry : tie.In-loop Inv-loop μ-loop → tie.Start Inv-loop μ-loop
-entry c =
-    c .before .before .before .before .before .before .before .before .before .before .before .before .before .before
-    .before .before
+entry c = c .before .before .before .before .before .before .before .before
 
 add-wide : tie.Need-add-wide Inv-loop μ-loop
 add-wide c = omega (arith, c .before .before .before .before .before .pre .0 .shape)
@@ -36,45 +32,12 @@ add-wide c = omega (arith, c .before .before .before .before .before .pre .0 .sh
 sub-wide : tie.Need-sub-wide Inv-loop μ-loop
 sub-wide c = omega (arith, c .before .before .before .before .before .before .pre .0 .shape)
 
-no-positions-requires : tie.Need-no-positions-requires Inv-loop μ-loop
-no-positions-requires c κs = search needs
-
-no-positions-requires-2 : tie.Need-no-positions-requires-2 Inv-loop μ-loop
-no-positions-requires-2 c κs = search needs
-
-add-own-rows : tie.Need-add-own-rows Inv-loop μ-loop
-add-own-rows c = omega (arith, c .before .before .before .before .before .before .before .before .before .pre .0 .shape)
-
-sub-own-rows : tie.Need-sub-own-rows Inv-loop μ-loop
-sub-own-rows c =
-    omega (arith, c .before .before .before .before .before .before .before .before .before .before .pre .0 .shape)
-
-own-rows-requires : tie.Need-own-rows-requires Inv-loop μ-loop
-own-rows-requires c κs = search needs
-
-own-ends-requires : tie.Need-own-ends-requires Inv-loop μ-loop
-own-ends-requires c κs =
-    let o = c .before .before .before .before .before .before .before .before .before .before .before .before
-    .before in (
-      sides-of (now (o .args .text)) (o .args .s) _ (o .pre .0 .shape) (o .pre .0 .size),
-      o .pre .2,
-      zeros-long _ (c .before .before .before .before .before .before .no-positions .ensures),
-      zeros-long _ (c .before .before .before .before .before .no-positions2 .ensures),
-      omega (arith, c .before .before .own-rows .ensures, own-rows-le (o .args .s .height) (down (o .args .s))),
-    )
-
 loop-holds : tie.Need-loop-holds Inv-loop μ-loop
 loop-holds c =
-    let o = c .before .before .before .before .before .before .before .before .before .before .before .before .before
-    .before in (
+    let o = c .before .before .before .before .before .before in (
       omega arith,
-      record {
-        shape = o .pre .0 .shape;
-        cells = o .pre .0 .size;
-        places = o .pre .2;
-        owns = owns-as _ _ _ _ _ _ (c .before .before .before .own-rows .ensures) (c .own-ends .ensures);
-      },
-      o .pre .3,
+      record { shape = o .pre .0 .shape; cells = o .pre .0 .size; places = o .pre .2; owns = o .pre .3 },
+      o .pre .4,
       columns-none _ _ _ _ _ _,
     )
 
@@ -87,7 +50,7 @@ write-strip-requires c κs = let i = c .before .before .before .before in
       i .loop-test .taken,
       o .pre .1,
       l .inv .2,
-      omega (arith, o .pre .4, l .inv .3 .long),
+      omega (arith, o .pre .5, l .inv .3 .long),
     )
 
 add-left : tie.Need-add-left Inv-loop μ-loop
@@ -101,16 +64,19 @@ loop-less c = let i = c .before .before .before .before .before .before .before 
 loop-again : tie.Need-loop-again Inv-loop μ-loop
 loop-again c = let i = c .before .before .before .before .before .before .before in
     let l = i .before .loop in
-    let w = c .before .before .write-strip .ensures in
-    (omega (arith, i .loop-test .taken), l .inv .1, w .0, columns-more _ _ _ _ _ _ _ _ (l .left) (l .inv .3) (w .1))
+    let w = c .before .before .write-strip .ensures in (
+      omega (arith, i .loop-test .taken),
+      sweep-with _ _ _ _ _ _ _ (l .inv .1) (i .loop-test .taken) _ _ (w .1 .1),
+      w .0,
+      columns-more _ _ _ _ _ _ _ _ (l .left) (l .inv .3) (w .1 .0),
+    )
 
 same-length : tie.Need-same-length Inv-loop μ-loop
 same-length c = c .before .loop .inv .3 .long
 
 returns : tie.Need-returns Inv-loop μ-loop
 returns c =
-    let o = c .before .before .before .before .before .before .before .before .before .before .before .before .before
-    .before .before .before in
+    let o = c .before .before .before .before .before .before .before .before in
     let a = o .args in
     let l = c .before .loop in
     let e : l .left ≡ across (a .s) = omega (arith, c .loop-test .left, l .inv .0) in
@@ -125,12 +91,6 @@ write-strips-spec =
     μ-loop
     add-wide
     sub-wide
-    no-positions-requires
-    no-positions-requires-2
-    add-own-rows
-    sub-own-rows
-    own-rows-requires
-    own-ends-requires
     loop-holds
     write-strip-requires
     add-left

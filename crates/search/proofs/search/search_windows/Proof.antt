@@ -9,6 +9,7 @@ use lib.ListN.{getD}
 use lib.Seq.{length-take-le}
 use denote.Ref.{now}
 use Rattle.theory.specs.Older.Laws.{zeros-long}
+use Rattle.sweep.specs.Sweep.Own.{own-unmade}
 use Rattle.counts.specs.Counts.Laws.{windows-small}
 use Rattle.shapes.specs.Questions.{asked}
 use Rattle.search.specs.Search.{lend}
@@ -24,7 +25,7 @@ abbrev marking : tie.After-totals-of-arg → tie.After-flag-all
 marking c = c .before .before .before .before .before .before .before
 
 abbrev reading : tie.After-totals-of-arg → tie.After-read-pattern
-reading c = marking c .before .before .before .before .before
+reading c = marking c .before .before .before .before .before .before .before .before .before
 
 abbrev entry : tie.After-totals-of-arg → tie.Start
 entry c =
@@ -49,7 +50,7 @@ totals c =
     let a = o .args in
     let e = c .totals-of .ensures in
     totalled (now (a .text)) (now (a .pattern)) (a .s) _ _ (now (a .flags)) _ (o .pre)
-    (flags-after _ _ _ (marking (c .before) .flag-all .ensures)) _ _ _ (e .0) (e .1 .0) (e .1 .1)
+    (flags-after _ _ _ (marking (c .before) .flag-all .ensures .0)) _ _ _ (e .0) (e .1 .0) (e .1 .1)
 
 add-n : tie.Need-add-n
 add-n c = search needs
@@ -77,14 +78,23 @@ read-pattern-requires c κs =
     let n = c .before .before in
     (zeros-long _ (n .before .no-positions .ensures), zeros-long _ (n .no-symbols .ensures))
 
+no-positions-requires-2 : tie.Need-no-positions-requires-2
+no-positions-requires-2 c κs = search needs
+
+no-positions-requires-3 : tie.Need-no-positions-requires-3
+no-positions-requires-3 c κs = search needs
+
 flag-all-requires : tie.Need-flag-all-requires
-flag-all-requires c κs = search needs
+flag-all-requires c κs =
+    let o = c .before .before .before .before .before .before .before .before .before .before .before .before .before .before .before .before .before .before .before .before .before .before .before in
+    let e = c .before .before .before .before .before .before .before .before .read-pattern .ensures in
+    (o .pre, e .0, e .1 .0, own-unmade _ _ _ _ _ (c .before .before .before .before .before .before .before .no-positions2 .ensures) (c .before .before .before .before .before .before .no-positions3 .ensures))
 
 totals-of-requires : tie.Need-totals-of-requires
 totals-of-requires c κs =
     let o = entry c in
     let a = o .args in
-    let flags-are = flags-after _ _ _ (marking c .flag-all .ensures) in (
+    let flags-are = flags-after _ _ _ (marking c .flag-all .ensures .0) in (
       reading c .read-pattern .ensures .0,
       omega (arith, windows-small (a .s) _ (o .pre .shape)),
       omega (
@@ -108,7 +118,7 @@ returns c =
     let t = c .before .before in
     let a = entry t .args in
     says-short (asked (now (a .text)) (now (a .pattern)) (a .s))
-    (lend (now (a .links)) (now (a .counts)) (now (a .flags)) (now (a .listing))) _ (marking t .flag-all .ensures) _
+    (lend (now (a .links)) (now (a .counts)) (now (a .flags)) (now (a .listing))) _ (marking t .flag-all .ensures .0) _
     (totals (c .before) .size-is) (c .if1 .taken)
 
 cast-d : tie.Need-cast-d
@@ -126,19 +136,20 @@ slice-aggregate-write-listing c = sym (length-take-le _ _ (array-share-prefix-li
 
 write-listing-requires : tie.Need-write-listing-requires
 write-listing-requires c κs =
-    let test = c .before .before .before .before in
+    let test = c .before .before .before .before .before .before in
     let sums = totals (test .before) in
     let t = test .before .before in
     let o = entry t in
     let a = o .args in
     let e = reading t .read-pattern .ensures in (
       flagged (now (a .text)) (now (a .pattern)) (a .s) _ _ (now (a .flags)) _ (o .pre)
-          (flags-after _ _ _ (marking t .flag-all .ensures)),
+          (flags-after _ _ _ (marking t .flag-all .ensures .0)),
       sums .found-is,
       sums .refused-is,
       listing-fits (now (a .text)) (now (a .pattern)) (a .s) _ _ _ _ sums (bytes t) (test .if1 .left),
       front-symbols _ (bytes t) _ _ _ (e .0) (e .1 .1),
       e .1 .0,
+      marking t .flag-all .ensures .1,
     )
 
 same-length-4 : tie.Need-same-length-4
@@ -155,12 +166,12 @@ same-length-7 c = search needs
 
 returns-2 : tie.Need-returns-2
 returns-2 c =
-    let test = c .before .before .before .before .before .before .before in
+    let test = c .before .before .before .before .before .before .before .before .before in
     let sums = totals (test .before) in
     let t = test .before .before in
     let a = entry t .args in
     says-listed (asked (now (a .text)) (now (a .pattern)) (a .s))
-    (lend (now (a .links)) (now (a .counts)) (now (a .flags)) (now (a .listing))) _ (marking t .flag-all .ensures) _ _ _
+    (lend (now (a .links)) (now (a .counts)) (now (a .flags)) (now (a .listing))) _ (marking t .flag-all .ensures .0) _ _ _
     _ (sums .found-is) (sums .refused-is) (sums .size-is) (test .if1 .left)
     (c .before .before .write-listing .ensures)
 
@@ -176,6 +187,8 @@ search-windows-spec =
     no-positions-requires
     no-symbols-requires
     read-pattern-requires
+    no-positions-requires-2
+    no-positions-requires-3
     flag-all-requires
     totals-of-requires
     same-length

@@ -5,20 +5,24 @@ use native.Mathlib.Omega.{arith}
 use Prim.Native.Nat.{_-_}
 use denote.Ref.{now}
 use borrow.Author.Needs.{needs}
+use Rattle.shapes.specs.Shapes.Laws.{product-le}
 use Rattle.theory.specs.Older.Laws.{older-zeros}
 use Rattle.sweep.specs.Sweep.Own.{OwnRun, own-first, own-asks, own-more, own-all}
 use Rattle.sweep.proofs.own.own_ends.Statement.{statement}
 use Rattle.sweep.proofs.own.own_ends.Tie as tie
 
 abbrev Inv-loop : tie.InvT-loop
-Inv-loop pattern height width n first selves₀ earlies₀ s last₀ row₀ reached₀ top₀ selves earlies last row reached top =
-    OwnRun pattern height width last selves earlies row reached top
+Inv-loop pattern height width rows n first selves₀ earlies₀ s last₀ row₀ reached₀ top₀ selves earlies last row reached top =
+    OwnRun pattern height width rows last selves earlies row reached top
 
 abbrev μ-loop : tie.MeasureT-loop
-μ-loop pattern height width n first selves₀ earlies₀ s last₀ row₀ reached₀ top₀ selves earlies last row reached top = n - top
+μ-loop pattern height width rows n first selves₀ earlies₀ s last₀ row₀ reached₀ top₀ selves earlies last row reached top = n - top
 
 no-positions-requires : tie.Need-no-positions-requires Inv-loop μ-loop
 no-positions-requires c κs = search needs
+
+mul-selves : tie.Need-mul-selves Inv-loop μ-loop
+mul-selves c = let o = c .before .before in omega (arith, product-le (o .args .rows) (o .args .width) 255 255 (omega (arith, o .pre .0 .height-le, o .pre .5)) (o .pre .0 .width-le))
 
 element-write-selves : tie.Need-element-write-selves Inv-loop μ-loop
 element-write-selves c = omega (arith, c .before .before .pre .2)
@@ -29,7 +33,7 @@ element-write-earlies c = omega (arith, c .before .before .pre .3)
 loop-holds : tie.Need-loop-holds Inv-loop μ-loop
 loop-holds c =
     let o = c .before .before in
-    own-first _ _ _ (o .pre .0) _ (now (o .args .selves)) (now (o .args .earlies)) (older-zeros 1 _ (omega arith) (c .no-positions .ensures)) (o .pre .2) (o .pre .3)
+    own-first _ _ _ _ (o .pre .0) (o .pre .4) (o .pre .5) _ (now (o .args .selves)) (now (o .args .earlies)) (older-zeros 1 _ (omega arith) (c .no-positions .ensures)) (o .pre .2) (o .pre .3)
 
 sub-next-end : tie.Need-sub-next-end Inv-loop μ-loop
 sub-next-end c = omega arith
@@ -38,19 +42,19 @@ next-end-requires : tie.Need-next-end-requires Inv-loop μ-loop
 next-end-requires c κs =
     let l = c .before .before .before .before .loop in
     let o = c .before .before .before .before .before .before .before in
-    own-asks _ _ _ (o .pre .0) _ _ _ _ _ _ _ (o .pre .1) (omega (arith, c .before .before .before .loop-test .taken, o .pre .4)) (l .inv)
+    own-asks _ _ _ _ (o .pre .0) (o .pre .4) (o .pre .5) _ _ _ _ _ _ _ (o .pre .1) (omega (arith, c .before .before .before .loop-test .taken, o .pre .6)) (l .inv)
 
-mul-selves : tie.Need-mul-selves Inv-loop μ-loop
-mul-selves c = let o = c .before .before .before .before .before .before .before .before in omega (arith, o .pre .0 .height-le, o .pre .4, c .before .before .before .before .loop-test .taken)
+mul-selves-2 : tie.Need-mul-selves-2 Inv-loop μ-loop
+mul-selves-2 c = let o = c .before .before .before .before .before .before .before .before in omega (arith, o .pre .0 .height-le, o .pre .5, o .pre .6, c .before .before .before .before .loop-test .taken)
 
 element-write-selves-2 : tie.Need-element-write-selves-2 Inv-loop μ-loop
-element-write-selves-2 c = let o = c .before .before .before .before .before .before .before .before in omega (arith, o .pre .0 .height-le, o .pre .4, c .before .before .before .before .loop-test .taken, c .before .before .before .before .before .loop .inv .owns .selves-long)
+element-write-selves-2 c = let o = c .before .before .before .before .before .before .before .before in omega (arith, o .pre .0 .height-le, o .pre .5, o .pre .6, c .before .before .before .before .loop-test .taken, c .before .before .before .before .before .loop .inv .owns .selves-long)
 
 mul-earlies : tie.Need-mul-earlies Inv-loop μ-loop
-mul-earlies c = let o = c .before .before .before .before .before .before .before .before in omega (arith, o .pre .0 .height-le, o .pre .4, c .before .before .before .before .loop-test .taken)
+mul-earlies c = let o = c .before .before .before .before .before .before .before .before in omega (arith, o .pre .0 .height-le, o .pre .5, o .pre .6, c .before .before .before .before .loop-test .taken)
 
 element-write-earlies-2 : tie.Need-element-write-earlies-2 Inv-loop μ-loop
-element-write-earlies-2 c = let o = c .before .before .before .before .before .before .before .before in omega (arith, o .pre .0 .height-le, o .pre .4, c .before .before .before .before .loop-test .taken, c .before .before .before .before .before .loop .inv .owns .earlies-long)
+element-write-earlies-2 c = let o = c .before .before .before .before .before .before .before .before in omega (arith, o .pre .0 .height-le, o .pre .5, o .pre .6, c .before .before .before .before .loop-test .taken, c .before .before .before .before .before .loop .inv .owns .earlies-long)
 
 add-top : tie.Need-add-top Inv-loop μ-loop
 add-top c = omega arith
@@ -62,12 +66,12 @@ loop-again : tie.Need-loop-again Inv-loop μ-loop
 loop-again c =
     let l = c .before .before .before .before .before .loop in
     let o = c .before .before .before .before .before .before .before .before in
-    own-more _ _ _ (o .pre .0) _ _ _ _ _ _ _ (o .pre .1) (omega (arith, c .before .before .before .before .loop-test .taken, o .pre .4)) (l .inv) _ _ (c .next-end .ensures)
+    own-more _ _ _ _ (o .pre .0) (o .pre .4) (o .pre .5) _ _ _ _ _ _ _ (o .pre .1) (omega (arith, c .before .before .before .before .loop-test .taken, o .pre .6)) (l .inv) _ _ (c .next-end .ensures)
 
 returns : tie.Need-returns Inv-loop μ-loop
 returns c =
     let o = c .before .before .before .before in
-    own-all _ _ _ (o .pre .0) _ _ _ _ _ _ _ (c .loop-test .left) (c .before .loop .inv)
+    own-all _ _ _ _ (o .pre .0) (o .pre .4) (o .pre .5) _ _ _ _ _ _ _ (c .loop-test .left) (c .before .loop .inv)
 
 pub own-ends-spec : {M : Type 1} → statement M
 own-ends-spec =
@@ -76,12 +80,13 @@ own-ends-spec =
     Inv-loop
     μ-loop
     no-positions-requires
+    mul-selves
     element-write-selves
     element-write-earlies
     loop-holds
     sub-next-end
     next-end-requires
-    mul-selves
+    mul-selves-2
     element-write-selves-2
     mul-earlies
     element-write-earlies-2

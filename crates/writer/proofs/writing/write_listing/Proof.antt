@@ -9,17 +9,18 @@ use Rattle.writer.proofs.writing.write_listing.Tie as tie
 
 write-windows-requires : tie.Need-write-windows-requires
 write-windows-requires c κs =
-    let o = c .before .before .before .before .before .before in
+    let o = c .before .before .before .before .before .before .before .before in
     let a = o .args in (
       o .pre .0,
       o .pre .4,
       o .pre .5,
+      o .pre .6,
       windows-room (now (a .text)) (now (a .pattern)) (a .s) _ _ (o .pre .1) (o .pre .2) (now (a .listing)) (o .pre .3),
     )
 
 write-record-requires : tie.Need-write-record-requires
 write-record-requires c κs =
-    let o = c .before .before .before .before .before .before .before .before .before .before in
+    let o = c .before .before .before .before .before .before .before .before .before .before .before .before in
     let a = o .args in
     let w = c .before .before .before .write-windows .ensures in
     closing-room (now (a .text)) (now (a .pattern)) (a .s) _ _ (o .pre .1) (o .pre .2) (now (a .listing)) (o .pre .3) _
@@ -30,7 +31,8 @@ same-length c = search needs
 
 returns : tie.Need-returns
 returns c =
-    let o = c .before .before .before .before .before .before .before .before .before .before .before .before .before in
+    let o = c .before .before .before .before .before .before .before .before .before .before .before .before .before
+    .before .before in
     let a = o .args in
     let w = c .before .before .before .before .before .before .write-windows .ensures in
     listing-whole (now (a .text)) (now (a .pattern)) (a .s) _ _ (o .pre .1) (o .pre .2) (now (a .listing)) (o .pre .3) _

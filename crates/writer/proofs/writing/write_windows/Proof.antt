@@ -40,7 +40,7 @@ write-rows-requires c κs =
       o .pre .0,
       c .before .before .before .before .list-offsets .ensures,
       zeros-long _ (c .before .before .before .no-positions2 .ensures),
-      omega (arith, o .pre .3, pieces-length (now (a .text)) (now (a .pattern)) (a .s)),
+      omega (arith, o .pre .4, pieces-length (now (a .text)) (now (a .pattern)) (a .s)),
     )
 
 mul-size : tie.Need-mul-size
@@ -58,14 +58,15 @@ add-size c =
 write-strips-requires : tie.Need-write-strips-requires
 write-strips-requires c κs =
     let o = c .before .before .before .before .before .before .before .before .before .before .before .before .before
-    .before .before .before .before in
+    .before .before .before .before .before .before in
     let a = o .args in
-    let w = c .before .before .before .before .write-rows .ensures in (
+    let w = c .before .before .before .before .before .before .write-rows .ensures in (
       o .pre .0,
       ap (λ (xs : List ℕ). 3 + 3 * length xs) (o .pre .1),
       o .pre .2,
+      o .pre .3,
       w .1 .0,
-      omega (arith, o .pre .3, pieces-length (now (a .text)) (now (a .pattern)) (a .s), w .1 .1 .long),
+      omega (arith, o .pre .4, pieces-length (now (a .text)) (now (a .pattern)) (a .s), w .1 .1 .long),
     )
 
 same-length : tie.Need-same-length
@@ -74,12 +75,12 @@ same-length c = search needs
 returns : tie.Need-returns
 returns c =
     let o = c .before .before .before .before .before .before .before .before .before .before .before .before .before
-    .before .before .before .before .before .before .before in
+    .before .before .before .before .before .before .before .before .before in
     let a = o .args in
-    let w = c .before .before .before .before .before .before .before .write-rows .ensures in (
+    let w = c .before .before .before .before .before .before .before .before .before .write-rows .ensures in (
       w .0 ∙ pieces-length (now (a .text)) (now (a .pattern)) (a .s),
       windows-all (now (a .text)) (now (a .pattern)) (a .s) (now (a .flags)) _ _ _ (omega (arith, o .pre .0 .shape))
-          (o .pre .3) (w .1 .1) (c .before .before .write-strips .ensures),
+          (o .pre .4) (w .1 .1) (c .before .before .write-strips .ensures),
     )
 
 pub write-windows-spec : {M : Type 1} → statement M
