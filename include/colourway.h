@@ -24,7 +24,8 @@
  *
  * Stack. From its caller's frame down a call touches, at most:
  *
- *     colourway_search, colourway_check                       15 KiB
+ *     colourway_search                                        17 KiB
+ *     colourway_check                                         15 KiB
  *     colourway_one_window                                     7 KiB
  *     colourway_bijection_compose                              6 KiB
  *     colourway_bijection_pair                                 4 KiB

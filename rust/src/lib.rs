@@ -86,7 +86,8 @@
 //!
 //! | Operation | Stack |
 //! |---|---|
-//! | [`search`], [`check`] | 15 KiB |
+//! | [`search`] | 17 KiB |
+//! | [`check`] | 15 KiB |
 //! | [`one_window`] | 7 KiB |
 //! | [`Bijection::compose`] | 6 KiB |
 //! | [`Bijection::pair`] | 4 KiB |
