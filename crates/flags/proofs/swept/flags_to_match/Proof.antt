@@ -32,7 +32,8 @@ place-in : (c : tie.In-loop Inv-loop μ-loop) → let a = entry c .args in
     c .before .loop .top * across (a .s) + a .left < down (a .s) * across (a .s)
 place-in c =
     let o = entry c in
-    place-lt (across (o .args .s)) (down (o .args .s)) (c .before .loop .top) (o .args .left) (o .pre .2) (c .loop-test .taken)
+    place-lt (across (o .args .s)) (down (o .args .s)) (c .before .loop .top) (o .args .left) (o .pre .2)
+    (omega (arith, c .loop-test .taken))
 
 place-small : (c : tie.In-loop Inv-loop μ-loop) → let a = entry c .args in
     c .before .loop .top * across (a .s) + a .left < 255 * 255
@@ -81,7 +82,7 @@ swept-flag-requires c κs =
     let i = c .before .before .before .before in
     let o = entry i in
     let here = i .before .loop .inv in
-    (sweep-with _ _ _ _ _ _ _ (o .pre .1) (o .pre .2) _ _ (here .owns), o .pre .2, i .loop-test .taken, o .pre .3, here .run)
+    (sweep-with _ _ _ _ _ _ _ (o .pre .1) (o .pre .2) _ _ (here .owns), o .pre .2, omega (arith, i .loop-test .taken), o .pre .3, here .run)
 
 slice-write-flags : tie.Need-slice-write-flags Inv-loop μ-loop
 slice-write-flags c =
@@ -116,7 +117,7 @@ returns c =
     let i = c .before .before .before .before .before .before .before .before in
     let o = entry i in
     let got = c .before .before .before .swept-flag .ensures in
-    (swept-to-match _ _ _ _ _ _ _ (o .pre .0) (o .pre .2) _ _ _ _ _ _ _ (i .loop-test .taken) (i .before .loop .inv) _ _ refl (got .0) (flag-one c), got .1 .1)
+    (swept-to-match _ _ _ _ _ _ _ (o .pre .0) (o .pre .2) _ _ _ _ _ _ _ (omega (arith, i .loop-test .taken)) (i .before .loop .inv) _ _ refl (got .0) (flag-one c), got .1 .1)
 
 loop-less : tie.Need-loop-less Inv-loop μ-loop
 loop-less c = omega (arith, c .before .before .before .before .before .before .before .before .loop-test .taken)
@@ -126,7 +127,7 @@ loop-again c =
     let i = c .before .before .before .before .before .before .before .before in
     let o = entry i in
     let got = c .before .before .before .swept-flag .ensures in
-    swept-more _ _ _ _ _ _ _ (o .pre .0) (o .pre .2) _ _ _ _ _ _ _ (i .loop-test .taken) (i .before .loop .inv) _ _ refl (got .0) _ _ _ _ _ (got .1 .0) (got .1 .1)
+    swept-more _ _ _ _ _ _ _ (o .pre .0) (o .pre .2) _ _ _ _ _ _ _ (omega (arith, i .loop-test .taken)) (i .before .loop .inv) _ _ refl (got .0) _ _ _ _ _ (got .1 .0) (got .1 .1)
 
 same-length-2 : tie.Need-same-length-2 Inv-loop μ-loop
 same-length-2 c = length-flags (c .before)
