@@ -118,8 +118,7 @@ module _ (pattern : List ℕ) (columns width : ℕ) where
 
 -- ---- a window
 
--- where no mismatch ends, positions alike in the pattern are alike in the window
-pub clear-alike : (m w : ℕ → ℕ) (n : ℕ) → n ≤ firstEnd m w n → (p q : ℕ) → p < n → q < n → m p ≡ m q → w p ≡ w q
+-- where no mismatch ends, two positions are alike in the window exactly if they are in the pattern
+pub clear-even : (m w : ℕ → ℕ) (n : ℕ) → n ≤ firstEnd m w n → Even m w n
 unfolding firstEnd
-clear-alike m w n none p q hp hq e =
-    even-if m w n (λ k l. first-spec (ends m w) n .before k (omega arith)) p q hp hq .there e
+clear-even m w n none = even-if m w n (λ k l. first-spec (ends m w) n .before k (omega arith))

@@ -20,8 +20,8 @@ windowCount text columns height width k =
     height width)
 
 -- the same of the windows of that size
-abbrev pub countOf : List ℕ → Shape → ℕ → ℕ
-countOf text s = windowCount text (s .columns) (s .height) (s .width)
+abbrev pub countIn : List ℕ → Shape → ℕ → ℕ
+countIn text s = windowCount text (s .columns) (s .height) (s .width)
 
 -- what the operation says: 2, 3, 4, 10 in this order.
 unfoldable pub countsSaid : List ℕ → Shape → ℕ → Said
@@ -31,7 +31,7 @@ countsSaid text s room = textSaid text s then check (leb (down s * across s) roo
 -- stays
 unfoldable pub countsOf : List ℕ → Shape → List ℕ → Filled
 countsOf text s counts =
-    filledBy (countsSaid text s (length counts)) (table (countOf text s) (down s * across s)) counts
+    filledBy (countsSaid text s (length counts)) (table (countIn text s) (down s * across s)) counts
 
 -- What the inner functions' contracts cite.
 

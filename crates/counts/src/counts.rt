@@ -10,7 +10,7 @@ ghost use Rattle.refusals.specs.Said.{outcomeSaid, filled};
 ghost use Rattle.shapes.specs.Questions.{fourSides};
 ghost use Rattle.cells.specs.Windows.{rowCells};
 ghost use Rattle.shapes.specs.Shapes.{ShapeOf, across, down};
-ghost use Rattle.counts.specs.Counts.{countsSaid, countsOf, stripCells, countOf};
+ghost use Rattle.counts.specs.Counts.{countsSaid, countsOf, stripCells, countIn};
 use occurrences::occurrences::add_row;
 use occurrences::occurrences::clear_occurrences;
 use occurrences::occurrences::replace_row;
@@ -91,7 +91,7 @@ fn strip_counts(
         ShapeOf s (length (now text)) × (left < across s) × (down s * across s ≤ length (now counts))
         × (length (now occurrences) ≡ 256) ⌝ }
     ensures { λ r. ⌜
-        now (counts .exit) ≡ stored (countOf (now (text .entry)) s) (λ top. top * across s + left) (down s)
+        now (counts .exit) ≡ stored (countIn (now (text .entry)) s) (λ top. top * across s + left) (down s)
         (now (counts .entry)) ⌝ }
     ensures { λ r. ⌜ length (now (occurrences .exit)) ≡ 256 ⌝ }
 {
@@ -111,7 +111,7 @@ fn strip_counts(
 fn all_counts(text: &[u8], s: Shape, counts: &mut [u16])
     requires { ⌜ ShapeOf s (length (now text)) × (down s * across s ≤ length (now counts)) ⌝ }
     ensures { λ r. ⌜
-        now (counts .exit) ≡ storedRows (countOf (now (text .entry)) s) (λ left top. top * across s + left)
+        now (counts .exit) ≡ storedRows (countIn (now (text .entry)) s) (λ left top. top * across s + left)
         (across s) (down s) (now (counts .entry)) ⌝ }
 {
     let width = s.columns + 1 - s.width;

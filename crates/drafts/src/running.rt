@@ -6,8 +6,8 @@ use crate::output::print_listing;
 use crate::output::print_refusal;
 use crate::output::print_totals;
 use rules::checked::Checked;
-use search::search::Searched;
 use search::search::search;
+use searched::answer::Searched;
 use verify::check::check;
 
 // Searches with the listing buffer that is lent, and prints the records of the listing and the totals, or the refusal.

@@ -3,7 +3,7 @@ ghost use mathlib.Core.Path.{_≡_};
 ghost use Rattle.theory.specs.Bytes.{Bytes};
 ghost use Rattle.refusals.specs.Said.{saidNumber};
 ghost use Rattle.shapes.specs.Questions.{ask};
-ghost use Rattle.search.specs.Search.{lend, searchOf};
+ghost use Rattle.searched.specs.Search.{lend, searchOf};
 ghost use Rattle.returned.specs.Returned.{valuesBy};
 use returned::searching::searched_number;
 use returned::searching::searched_totals;

@@ -12,7 +12,7 @@ use Rattle.theory.specs.Store.{stored, storedRows, Covers}
 use Rattle.theory.specs.Store.Laws.{rows-none, rows-more, rows-all}
 use Rattle.refusals.specs.Said.{overFront}
 use Rattle.shapes.specs.Shapes.{ShapeOf, across, down}
-use Rattle.counts.specs.Counts.{countOf, countsOf}
+use Rattle.counts.specs.Counts.{countIn, countsOf}
 use Rattle.counts.specs.Counts.Laws.{counts-accepted, counts-after, windows-covered}
 use Rattle.shapes.specs.declared.shapes.Shape.{Shape}
 use Rattle.shapes.specs.Questions.{asked}
@@ -29,7 +29,7 @@ buffer-table f n l = ap (λ (k : ℕ). table f n ++ drop k l) (length-table f n)
 module _ (text : List ℕ) (s : Shape) (counts after : List ℕ) (shape : ShapeOf s (length text))
     (room : down s * across s ≤ length counts)
     (is : after ≡ countsOf text s counts .buffer) where
-  after-is : after ≡ table (countOf text s) (down s * across s) ++ drop (down s * across s) counts
+  after-is : after ≡ table (countIn text s) (down s * across s) ++ drop (down s * across s) counts
   after-is =
       is
       ∙ counts-after text s counts
@@ -38,24 +38,24 @@ module _ (text : List ℕ) (s : Shape) (counts after : List ℕ) (shape : ShapeO
   pub counts-there : CountsAre text s after
   counts-there k h =
       rw after-is
-      (List·getD-append (table (countOf text s) (down s * across s)) (drop (down s * across s) counts) 0 k
-      (omega (arith, length-table (countOf text s) (down s * across s)))
-      ∙ getD-table (countOf text s) (down s * across s) k 0 h)
+      (List·getD-append (table (countIn text s) (down s * across s)) (drop (down s * across s) counts) 0 k
+      (omega (arith, length-table (countIn text s) (down s * across s)))
+      ∙ getD-table (countIn text s) (down s * across s) k 0 h)
 
   pub counts-long : length after ≡ length counts
   counts-long =
       ap length after-is
-      ∙ length-append (table (countOf text s) (down s * across s)) (drop (down s * across s) counts)
-      ∙ omega (arith, length-table (countOf text s) (down s * across s), length-drop (down s * across s) counts)
+      ∙ length-append (table (countIn text s) (down s * across s)) (drop (down s * across s) counts)
+      ∙ omega (arith, length-table (countIn text s) (down s * across s), length-drop (down s * across s) counts)
 
   -- the counts of all windows, and the rest as it was
-  pub counts-over : after ≡ overFront (table (countOf text s) (down s * across s)) counts
-  counts-over = after-is ∙ sym (buffer-table (countOf text s) (down s * across s) counts)
+  pub counts-over : after ≡ overFront (table (countIn text s) (down s * across s)) counts
+  counts-over = after-is ∙ sym (buffer-table (countIn text s) (down s * across s) counts)
 
 -- all three
 pub marks-over : (text pattern : List ℕ) (s : Shape) (w after : Work)
     → after .links ≡ overFront (table (λ p. 0) (s .rows * s .width)) (w .links)
-    → after .counts ≡ overFront (table (countOf text s) (down s * across s)) (w .counts)
+    → after .counts ≡ overFront (table (countIn text s) (down s * across s)) (w .counts)
     → after .flags ≡ overFront (table (flagOf text pattern s) (down s * across s)) (w .flags)
     → after ≡ workAfter (asked text pattern s) w
 unfolding workAfter

@@ -5,7 +5,6 @@
 use mathlib.Core.Path.{_≡_, refl, _∙_}
 use mathlib.Core.List.{List}
 use Prim.Native.Nat.{ℕ, _+_, _-_, _*_, _≤_, _<_}
-use native.Mathlib.Nat.{one-mul, mul-le-mul-right}
 use native.Mathlib.Numerals.{add-one}
 use native.Mathlib.Omega.{arith}
 use lib.ListN.{length, getD, set, length-set}
@@ -18,7 +17,6 @@ use Rattle.theory.specs.Match.{ends, firstEnd}
 use Rattle.theory.specs.Store.{stored}
 use Rattle.theory.specs.Store.Laws.{stored-more}
 use Rattle.shapes.specs.Shapes.{ShapeOf, across, down}
-use Rattle.shapes.specs.Shapes.Laws.{product-le}
 use Rattle.cells.specs.Windows.{stripAt}
 use Rattle.shapes.specs.declared.shapes.Shape.{Shape}
 use Rattle.occurrences.specs.Distinct.{distinct}
@@ -103,13 +101,6 @@ match-clear text pattern s left top shape beside size e k h =
     whole (fails n) x = omega arith
 
 -- ---- what the pattern says by itself
-
-pub cells-some : (s : Shape) (cells n : ℕ) → ShapeOf s cells → n ≡ s .height * s .width → 0 < n
-cells-some s cells n v e =
-    let tall : 1 ≤ s .height = omega arith in omega (arith, e, mul-le-mul-right (s .width) tall, one-mul (s .width))
-
-pub cells-few : (s : Shape) (cells n : ℕ) → ShapeOf s cells → n ≡ s .height * s .width → n ≤ 65025
-cells-few s cells n v e = omega (arith, e, product-le (s .height) (s .width) 255 255 (omega arith) (omega arith))
 
 pub own-from : (pattern : List ℕ) (width n : ℕ) (first selves earlies : List ℕ)
     → FirstPlaces (λ k. getD pattern k 0) (length pattern) first → OwnSoFar pattern width n selves earlies

@@ -9,7 +9,7 @@ use mathlib.Core.Bool.{Bool, true}
 use mathlib.Core.List.{List}
 use Prim.Native.Nat.{ℕ, _-_, _*_, _≤_}
 use lib.Dec.{eqb, ltb}
-use lib.ListN.{length}
+use lib.ListN.{length, getD}
 use Rattle.theory.specs.Test.{pick, both}
 use Rattle.theory.specs.First.{every}
 use Rattle.theory.specs.Table.{table}
@@ -24,6 +24,10 @@ use Rattle.matching.specs.Questions.{answerAt}
 -- the flag of window k
 unfoldable pub windowFlag : Question → ℕ → ℕ
 windowFlag q k = pick (isMatch (answerAt q k)) 1 0
+
+-- the flags are the truth: for every window its entry is the window's flag
+unfoldable pub flagsTrue : Question → List ℕ → Bool
+flagsTrue q flags = every (λ k. eqb (getD flags k 0) (windowFlag q k)) (windowsOf q)
 
 -- the count of window k
 abbrev pub countAt : Question → ℕ → ℕ

@@ -87,7 +87,7 @@ earlier w n = go (lt-tested k n)
 
 module _ (m w : ℕ → ℕ) where
   -- what the induction on the positions carries
-  record Counted (n : ℕ) : Type 0 where
+  record CountsSoFar (n : ℕ) : Type 0 where
     at-most : distinct (table m n) ≤ distinct (table w n)
     equal-even : distinct (table m n) ≡ distinct (table w n) → Even m w n
 
@@ -112,7 +112,7 @@ module _ (m w : ℕ → ℕ) where
           let e : q ≡ p = omega arith in
           record { there = λ _. ap w e; back = λ _. ap m e }
 
-  counted : (n : ℕ) → Determines w m n → Counted n
+  counted : (n : ℕ) → Determines w m n → CountsSoFar n
   counted zero d =
       record {
         at-most = omega (arith, ap distinct (table-zero m), ap distinct (table-zero w));
@@ -121,7 +121,7 @@ module _ (m w : ℕ → ℕ) where
       }
   counted (suc n) d = go (counted n (λ q p hq hp e. d q p (omega arith) (omega arith) e)) (earlier m n) (earlier w n)
     where
-      go : Counted n → Earlier m n → Earlier w n → Counted (suc n)
+      go : CountsSoFar n → Earlier m n → Earlier w n → CountsSoFar (suc n)
       go c e (seen q h x) =
           let y : m q ≡ m n = d q n (omega arith) (omega arith) x in
           let dm = distinct-next-old m n q h y in

@@ -1,10 +1,10 @@
 -- Demand 3: what holds of a text, a pattern, a listing, found and refused, whoever made the listing (`Demand3`); and
--- the demand itself, that it holds of every listing that the check passes (`OfTheCheck`) or the search writes, where
--- besides each window's records list its one-window answer (`OfTheSearch`). Its sentences are those of the demand and
--- of the last paragraph of document 01's 'Reading and checking'. That they hold is `demand-3` of `Theorems`. A
--- one-to-one renaming is there a one-to-one mapping of the pattern's symbols (document 004's definition); that it is
--- the same as document 01's renaming, two columns that agree, is theory's `matches-columns`; `Corollaries` says it of a
--- listing.
+-- the demand itself, that it holds of every listing that the check passes (`OfTheCheck`), and of every one that the
+-- search writes (`OfTheSearch`) or List (`OfTheList`), where besides each window's records list its one-window answer.
+-- Its sentences are those of the demand and of the last paragraph of document 01's 'Reading and checking'. That they
+-- hold is `demand-3` of `Theorems`. A one-to-one renaming is there a one-to-one mapping of the pattern's symbols
+-- (document 004's definition); that it is the same as document 01's renaming, two columns that agree, is theory's
+-- `matches-columns`; `Corollaries` says it of a listing.
 -- Assumes nothing.
 pub mod Standing
 pub mod Times
@@ -21,8 +21,8 @@ use Rattle.matching.specs.Compare.{patternOf, windowIn, positions, CornerIn, to
 use Rattle.matching.specs.declared.compare.WindowAnswer.{WindowAnswer}
 use Rattle.listing.specs.declared.records.Record.{Record}
 use Rattle.entries.specs.Listing.{verdictRecords}
-use Rattle.search.specs.Search.{Lent, done, searchOf}
-use Rattle.search.specs.declared.search.Searched.the-variants.{Listed}
+use Rattle.searched.specs.Search.{Lent, done, searchOf, listDone, listOf}
+use Rattle.searched.specs.declared.answer.Searched.the-variants.{Listed}
 use Rattle.rules.specs.Check.{checkedSaid, checkOf}
 use Rattle.rules.specs.declared.checked.Checked.the-variants.{Kept}
 use mathlib.Core.Bool.{Bool, false}
@@ -128,7 +128,7 @@ pub record Shows (q : Question) (listing : List ℕ) (found refused : ℕ) (entr
 abbrev pub Demand3 : Question → List ℕ → ℕ → ℕ → Type 0
 Demand3 q listing found refused = (entry : ℕ → ℕ → List Record) × Shows q listing found refused entry
 
--- ---- of every listing that our check passes or our search writes (`demand-3` of `Theorems`)
+-- ---- of every listing that our check passes, or our search or our List writes (`demand-3` of `Theorems`)
 
 -- of every listing that the check accepts
 abbrev pub OfTheCheck : Type 0
@@ -152,3 +152,10 @@ OfTheSearch =
     (q : Question) (l after : Lent) (found refused size : ℕ)
     → done (Listed found refused size) after ≡ searchOf q l → Bytes (q .pattern .cells)
     → (entry : ℕ → ℕ → List Record) × Shows q (take size (after .listing)) found refused entry × ListsAnswers q entry
+
+-- of every listing that List writes, whoever made the flags that it was lent: the same
+abbrev pub OfTheList : Type 0
+OfTheList =
+    (q : Question) (flags old after : List ℕ) (found refused size : ℕ)
+    → listDone (Listed found refused size) after ≡ listOf q flags old → Bytes (q .pattern .cells)
+    → (entry : ℕ → ℕ → List Record) × Shows q (take size after) found refused entry × ListsAnswers q entry

@@ -35,8 +35,8 @@ use Rattle.shapes.specs.Questions.{ask, fourSides, Question, Posed, linksNeeded
 use Rattle.entries.specs.Listing.{entryOfWindow, foundIn, refusedIn, searchRecords, searchListing, neededLength}
 use Rattle.theory.specs.Test.Laws.{says-true, le-tested, both-tested, tested}
 use Rattle.flags.specs.Flags.{roomsOf}
-use Rattle.search.specs.Search.{Lent, searchOf}
-use Rattle.search.specs.Search.Accepted.{lists, said-is, search-accepted}
+use Rattle.searched.specs.Search.{Lent, searchOf}
+use Rattle.searched.specs.Search.Accepted.{lists, said-is, search-accepted}
 use Rattle.entries.specs.Listing.Length.{length-listing}
 
 -- ---- the listing, computed

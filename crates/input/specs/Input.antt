@@ -72,10 +72,10 @@ pub record RightInput (input : List ℕ) : Type 0 where
   pub length-is : length input ≡ 4 + rowsIn input * columnsIn input + heightIn input * widthIn input
 
 -- 8 and 3 of what the sides ask for and the number of bytes behind the sizes
-unfoldable pub countSaid : ℕ → ℕ → ℕ → Said
-countSaid cells patternCells given =
+unfoldable pub cellsGivenSaid : ℕ → ℕ → ℕ → Said
+cellsGivenSaid cells patternCells given =
     check (fewCells cells patternCells) 8 then check (eqb given (cells + patternCells)) 3
 
 -- 2, 8, 3 and 4 of sides and the number of bytes behind the sizes
 unfoldable pub sizesSaid : Shape → ℕ → Said
-sizesSaid s given = sidesSaid s then countSaid (s .rows * s .columns) (s .height * s .width) given then sizeSaid s
+sizesSaid s given = sidesSaid s then cellsGivenSaid (s .rows * s .columns) (s .height * s .width) given then sizeSaid s

@@ -3,7 +3,7 @@ ghost use mathlib.Core.Path.{_≡_};
 ghost use Prim.Native.Nat.{_≤_};
 ghost use Rattle.refusals.specs.Said.{outcomeSaid};
 ghost use Rattle.shapes.specs.Questions.{fourSides};
-ghost use Rattle.input.specs.Input.{fewCells, countSaid, sizesSaid, inputSaid};
+ghost use Rattle.input.specs.Input.{fewCells, cellsGivenSaid, sizesSaid, inputSaid};
 use refusals::refusals::Outcome;
 use refusals::refusals::Reason;
 use refusals::refusals::Refusal;
@@ -26,7 +26,7 @@ fn few_cells(cells: usize, pattern_cells: usize) -> bool
 // 8, then 3: cells and pattern_cells are what the sides ask for, given is what stands behind the sizes.
 fn count_outcome(cells: usize, pattern_cells: usize, given: usize) -> Outcome
     requires { ⌜ (cells ≤ 65025) × («pattern_cells» ≤ 65025) ⌝ }
-    ensures { λ r. ⌜ outcomeSaid r ≡ countSaid cells «pattern_cells» given ⌝ }
+    ensures { λ r. ⌜ outcomeSaid r ≡ cellsGivenSaid cells «pattern_cells» given ⌝ }
 {
     let few = few_cells(cells, pattern_cells);
     let right = given == cells + pattern_cells;

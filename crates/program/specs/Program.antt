@@ -10,7 +10,7 @@ use Rattle.listing.specs.declared.records.Record.{Record}
 use Rattle.entries.specs.Listing.{searchRecords}
 use Rattle.refusals.specs.Said.{Said, accepts, refuses, _then_}
 use Rattle.flags.specs.Flags.{rooms}
-use Rattle.search.specs.Search.{searchSaid}
+use Rattle.searched.specs.Search.{searchSaid}
 use Rattle.printing.specs.Lines.{linesOf, refusalLine}
 use Rattle.input.specs.Input.{questionIn, inputSaid}
 

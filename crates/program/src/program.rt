@@ -14,8 +14,8 @@ use printing::lines::write_refusal;
 use refusals::refusals::Outcome;
 use refusals::refusals::Refusal;
 use refusals::refusals::refusal_number;
-use search::search::Searched;
 use search::search::search;
+use searched::answer::Searched;
 
 // The first length bytes are the output. The longest listing has 65,536 bytes, and a byte of it takes at most four.
 pub struct Output {

@@ -1,4 +1,5 @@
-// What an operation refuses. specs/Refusals.antt gives document 01's number and value of each case.
+// What an operation refuses. specs/Refusals.antt gives the number and value of each case, as documents 01 and 02 fix
+// them.
 ghost use mathlib.Core.Path.{_≡_};
 ghost use Rattle.refusals.specs.Refusals.{reasonNumber, numberOf, valuesOf, valueOr};
 ghost use Rattle.refusals.specs.Said.{_then_, saidNumber, outcomeSaid};
@@ -27,6 +28,8 @@ pub enum Reason {
     HasOtherPreimage,
     // a bijection whose columns disagree or hold a number above 256
     ColumnsDisagree,
+    // flags that differ from the truth for some window
+    FlagsFalse,
 }
 
 // By what an input, or a state, is refused.
@@ -49,7 +52,7 @@ pub enum Outcome {
     Refused(Refusal),
 }
 
-// Document 01's number of a reason.
+// The number of a reason, in the table of documents 01 and 02.
 pub fn reason_number(why: Reason) -> u8
     ensures { λ r. ⌜ r ≡ reasonNumber why ⌝ }
 {
@@ -65,10 +68,11 @@ pub fn reason_number(why: Reason) -> u8
         Reason::HasOtherImage => 12,
         Reason::HasOtherPreimage => 13,
         Reason::ColumnsDisagree => 14,
+        Reason::FlagsFalse => 16,
     }
 }
 
-// Document 01's number of a refusal.
+// The number of a refusal, in the same table.
 pub fn refusal_number(why: Refusal) -> u8
     ensures { λ r. ⌜ r ≡ numberOf why ⌝ }
 {

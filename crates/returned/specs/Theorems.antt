@@ -1,5 +1,5 @@
--- Demand 3 from what the exported search and check ensure: where the number is 0, it holds of the listing and of the
--- counts in the totals; its sentence on the one-window answer takes besides what the one-window question ensures. Why
+-- Demand 3 from what the exported search, List and check ensure: where the number is 0, it holds of the listing and of
+-- the counts in the totals; its sentence on the one-window answer takes besides what the one-window question ensures. Why
 -- it holds: no refusal has the number 0, so that the call was accepted, and then the totals are its values.
 -- Assumes nothing.
 use mathlib.Core.Path.{_≡_, sym, _∙_, ap}
@@ -10,9 +10,10 @@ use Rattle.theory.specs.Bytes.{Bytes}
 use Rattle.refusals.specs.Said.{Said, accepts, saidNumber}
 use Rattle.shapes.specs.Questions.{Question}
 use Rattle.entries.specs.Listing.{foundIn, refusedIn, neededLength}
-use Rattle.search.specs.Search.{Lent, done, searchOf}
-use Rattle.search.specs.Theorems.{search-zero}
-use Rattle.search.specs.declared.search.Searched.the-variants.{Listed}
+use Rattle.searched.specs.Search.{Lent, done, searchOf, listDone, listOf}
+use Rattle.searched.specs.Theorems.{search-zero}
+use Rattle.searched.specs.Parts.{listing-zero}
+use Rattle.searched.specs.declared.answer.Searched.the-variants.{Listed}
 use Rattle.rules.specs.Check.{checkOf}
 use Rattle.rules.specs.Theorems.{check-zero}
 use Rattle.guarantee.specs.Demand3.{Demand3, Shows, ListsAnswers}
@@ -37,6 +38,25 @@ searched-from-outside q l after number old totals n t b bytes zero =
     values = t ∙ ap (λ (s : Said). valuesBy 2 s old) said
 
     whole : done (Listed (foundIn q) (refusedIn q) (neededLength q)) after ≡ searchOf q l
+    whole = rw (b, ← said)
+
+-- of the exported List
+pub listed-from-outside : (q : Question) (flags old after : List ℕ) (number : ℕ) (before totals : List ℕ)
+    → number ≡ saidNumber (listOf q flags old .said) → totals ≡ valuesBy 2 (listOf q flags old .said) before
+    → after ≡ listOf q flags old .buffer
+    → Bytes (q .text .cells) × Bytes (q .pattern .cells) → number ≡ 0
+    → (entry : ℕ → ℕ → List Record)
+    × Shows q (take (getD totals 2 0) after) (getD totals 0 0) (getD totals 1 0) entry × ListsAnswers q entry
+listed-from-outside q flags old after number before totals n t b bytes zero =
+    rw values (demand-3 .2 q flags old after (foundIn q) (refusedIn q) (neededLength q) whole (bytes .1))
+  where
+    said : listOf q flags old .said ≡ accepts (foundIn q ∷ refusedIn q ∷ neededLength q ∷ [])
+    said = listing-zero q flags old (sym n ∙ zero)
+
+    values : totals ≡ foundIn q ∷ refusedIn q ∷ neededLength q ∷ []
+    values = t ∙ ap (λ (s : Said). valuesBy 2 s before) said
+
+    whole : listDone (Listed (foundIn q) (refusedIn q) (neededLength q)) after ≡ listOf q flags old
     whole = rw (b, ← said)
 
 -- of the exported check

@@ -1,11 +1,11 @@
 // What the search answers, in numbers.
 ghost use mathlib.Core.Path.{_≡_};
 ghost use Rattle.refusals.specs.Said.{saidNumber};
-ghost use Rattle.search.specs.Search.{searchedSaid};
+ghost use Rattle.searched.specs.Search.{searchedSaid};
 ghost use Rattle.returned.specs.Returned.{valuesBy};
 use refusals::refusals::refusal_number;
 use refusals::refusals::value_or;
-use search::search::Searched;
+use searched::answer::Searched;
 
 // The number of an answer.
 pub fn searched_number(answer: Searched) -> u8

@@ -1,2 +1,2 @@
-// By what the search is refused before it begins.
+// By what the search, Count and List are refused before they begin.
 pub mod rooms;

@@ -1,3 +1,2 @@
-// The search: the flag of every window, and then the listing. Its steps are parts of it, and no operations of their
-// own.
+// The search: what Count does, and then what List does with flags that are known to be the truth.
 pub mod search;

@@ -5,31 +5,20 @@ ghost use Rattle.theory.specs.Bytes.{Bytes};
 ghost use Rattle.shapes.specs.Questions.{ask, asked};
 ghost use lib.ListN.{length};
 ghost use Rattle.flags.specs.Flags.{RoomFor, rooms};
-ghost use Rattle.search.specs.Search.{done, lend, listedOf, searchOf};
-use flagged::windows::flag_all;
+ghost use Rattle.searched.specs.Search.{done, lend, listedOf, searchOf};
+use counting::count::count_flagged;
+use lister::list::list_flagged;
 use refusals::refusals::Outcome;
-use refusals::refusals::Refusal;
 use rooms::rooms::room_outcome;
 use rows::places::no_positions;
+use searched::answer::Searched;
 use shapes::shapes::Shape;
 use shapes::tables::no_symbols;
 use totals::pattern::read_pattern;
-use totals::totals::totals_of;
-use writer::writing::write_listing;
 
-// What a search answers.
-pub enum Searched {
-    // the windows found and refused, and the length of the listing
-    Listed {
-        found: u16,
-        refused: u16,
-        length: usize,
-    },
-    Refused(Refusal),
-}
-
-// The search where nothing but the listing's room is left to ask: first the flags, then, where there is room for it,
-// the listing. What the pattern says by itself is lent to both, so that neither makes again what the other made.
+// The search where nothing but the listing's room is left to ask: what Count does, and then what List does once it
+// knows that the flags are the truth, which those just made are. What the pattern says by itself is lent to both, so
+// that neither makes again what the other made.
 fn search_windows(
     text: &[u8],
     pattern: &[u8],
@@ -47,33 +36,25 @@ fn search_windows(
         ≡ listedOf (asked (now (text .entry)) (now (pattern .entry)) s)
         (lend (now (links .entry)) (now (counts .entry)) (now (flags .entry)) (now (listing .entry))) ⌝ }
 {
-    let n = (s.rows + 1 - s.height) * (s.columns + 1 - s.width);
     let mut first = no_positions();
     let mut listed = no_symbols();
     let symbols = read_pattern(pattern, &mut first, &mut listed);
     let mut selves = no_positions();
     let mut earlies = no_positions();
-    flag_all(
+    let totals = count_flagged(
         text,
         pattern,
+        s,
+        symbols,
         &first,
         &mut selves,
         &mut earlies,
-        symbols,
-        s,
         links,
         counts,
         flags,
     );
-    let totals = totals_of(pattern, symbols, flags, n);
-    let found = totals.found;
-    let refused = totals.refused;
-    let length = totals.length;
-    if listing.len() < length {
-        return Searched::Refused(Refusal::ListingBufferShort(length));
-    }
     let d = symbols as usize;
-    write_listing(
+    list_flagged(
         text,
         pattern,
         s,
@@ -81,16 +62,11 @@ fn search_windows(
         &first,
         &mut selves,
         &mut earlies,
-        found,
-        refused,
+        Outcome::Accepted,
+        totals,
         flags,
         listing,
-    );
-    Searched::Listed {
-        found,
-        refused,
-        length,
-    }
+    )
 }
 
 // Searches a text for a pattern. Refused by 2, 3, 4, 9, 10, and by 11 once the length of the listing is known. That

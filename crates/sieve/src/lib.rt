@@ -1,2 +1,3 @@
-// Which windows may match: the cheap test before a window is compared.
+// Which windows may match: two cheap tests before a window is compared.
 pub mod pairs;
+pub mod spoilers;

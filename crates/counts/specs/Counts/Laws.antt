@@ -31,7 +31,7 @@ use Rattle.occurrences.specs.Distinct.{distinct}
 use Rattle.occurrences.specs.Occurrences.{Occurrences, Tracks, RoomToAdd, Adds}
 use Rattle.occurrences.specs.Occurrences.Laws.{size-le}
 use Rattle.shapes.specs.declared.shapes.Shape.{Shape}
-use Rattle.counts.specs.Counts.{windowCount, countOf, countsSaid, countsOf, stripCells}
+use Rattle.counts.specs.Counts.{windowCount, countIn, countsSaid, countsOf, stripCells}
 
 module _ (text : List ℕ) (s : Shape) (room : ℕ) where
   -- 2, 3, 4 are refused as everywhere
@@ -63,26 +63,26 @@ module _ (text : List ℕ) (s : Shape) (room : ℕ) where
 module _ (text : List ℕ) (s : Shape) (counts : List ℕ) where
   -- the buffer of an accepted call
   pub counts-after : countsSaid text s (length counts) ≡ accepts []
-      → countsOf text s counts .buffer ≡ table (countOf text s) (down s * across s) ++ drop (down s * across s) counts
+      → countsOf text s counts .buffer ≡ table (countIn text s) (down s * across s) ++ drop (down s * across s) counts
   unfolding countsOf
-  counts-after e = rw (e, length-table (countOf text s) (down s * across s))
+  counts-after e = rw (e, length-table (countIn text s) (down s * across s))
 
   -- a refused call
   pub counts-kept : (o : Outcome) (why : Refusal) → o ≡ Refused why → outcomeSaid o ≡ countsSaid text s (length counts)
       → filled o counts ≡ countsOf text s counts
   unfolding countsOf
   counts-kept o why e d =
-      filled-kept o why (countsSaid text s (length counts)) (table (countOf text s) (down s * across s)) counts e d
+      filled-kept o why (countsSaid text s (length counts)) (table (countIn text s) (down s * across s)) counts e d
 
   -- an accepted one
   pub counts-new : (r : List ℕ) → countsSaid text s (length counts) ≡ accepts []
-      → r ≡ table (countOf text s) (down s * across s) ++ drop (down s * across s) counts
+      → r ≡ table (countIn text s) (down s * across s) ++ drop (down s * across s) counts
       → filled Accepted r ≡ countsOf text s counts
   unfolding countsOf
   counts-new r z e =
-      filled-new (countsSaid text s (length counts)) (table (countOf text s) (down s * across s)) counts r z
-      (e ∙ ap (λ (n : ℕ). table (countOf text s) (down s * across s) ++ drop n counts)
-      (sym (length-table (countOf text s) (down s * across s))))
+      filled-new (countsSaid text s (length counts)) (table (countIn text s) (down s * across s)) counts r z
+      (e ∙ ap (λ (n : ℕ). table (countIn text s) (down s * across s) ++ drop n counts)
+      (sym (length-table (countIn text s) (down s * across s))))
 
 -- a window's count is the number of different symbols among its cells
 pub window-count : (text : List ℕ) (columns height width row column : ℕ) → column < corners columns width
@@ -181,7 +181,7 @@ windows-small s cells v = product-le (down s) (across s) 255 255 (omega arith) (
 -- the count of the window that the occurrences track, at its place
 pub count-at : (text : List ℕ) (s : Shape) (top left : ℕ) (o : Occurrences) → left < across s
     → Tracks o (stripCells text s top left (s .height))
-    → o .size ≡ countOf text s (top * across s + left)
+    → o .size ≡ countIn text s (top * across s + left)
 count-at text s top left o h k = k .size-is ∙ sym (window-count text (s .columns) (s .height) (s .width) top left h)
 
 -- every window lies in one strip
@@ -197,11 +197,11 @@ windows-covered s pos =
 
 -- all strips written are the buffer that an accepted call leaves
 pub counts-written : (text : List ℕ) (s : Shape) (counts r : List ℕ) → countsSaid text s (length counts) ≡ accepts []
-    → r ≡ storedRows (countOf text s) (λ left top. top * across s + left) (across s) (down s) counts
+    → r ≡ storedRows (countIn text s) (λ left top. top * across s + left) (across s) (down s) counts
     → filled Accepted r ≡ countsOf text s counts
 counts-written text s counts r z e =
     let p = counts-passed text s (length counts) [] z in
     counts-new text s counts r z
     (e
-    ∙ rows-all (countOf text s) (λ left top. top * across s + left) (down s) (across s) (down s * across s) counts
+    ∙ rows-all (countIn text s) (λ left top. top * across s + left) (down s) (across s) (down s * across s) counts
     (windows-covered s (omega arith)) (p .1))

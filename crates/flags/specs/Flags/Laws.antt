@@ -2,20 +2,24 @@
 -- (`flag-right`); and a flag is 1 exactly if the pattern matches.
 -- Assumes nothing.
 use mathlib.Core.Path.{_≡_, refl, sym, _∙_, ap, subst}
-use mathlib.Core.Bool.{Bool, true}
-use mathlib.Core.Logic.{_↔_}
+use mathlib.Core.Bool.{Bool, true, false}
+use mathlib.Core.List.{List}
+use mathlib.Core.Logic.{_↔_, _⊎_, inl, inr}
 use Prim.Native.Nat.{ℕ, _+_, _-_, _*_, _≤_, _<_}
-use native.Mathlib.Nat.{add-mul, mul-le-mul-right}
+use native.Mathlib.Nat.{one-mul, add-mul, mul-le-mul-right}
 use native.Mathlib.Omega.{arith}
 use lib.Dec.{eqb}
+use lib.ListN.{length, drop, getD, List·getD-append, length-append, length-drop}
 use borrow.Author.Tests.{ne-eqb}
 use Rattle.theory.specs.Test.{pick, both, Tested, holds, fails}
 use Rattle.theory.specs.Test.Laws.{true-false, tested-same, tested-iff, eq-tested, lt-tested, both-tested}
 use Rattle.theory.specs.First.Laws.{every-tested}
 use Rattle.theory.specs.Table.{table}
+use Rattle.theory.specs.Table.Laws.{length-table, getD-table}
 use Rattle.theory.specs.Match.{Matches, Answer, matched, mismatched, isMatch, answerOf}
 use Rattle.theory.specs.Match.Answers.{match-iff}
-use Rattle.shapes.specs.Questions.{Question, acrossOf}
+use Rattle.refusals.specs.Said.{overFront}
+use Rattle.shapes.specs.Questions.{Question, acrossOf, windowsOf}
 use Rattle.shapes.specs.Shapes.Laws.{product-le}
 use Rattle.cells.specs.Windows.{windowAt}
 use Rattle.cells.specs.Windows.Laws.{corner-row, corner-column}
@@ -24,8 +28,10 @@ use Rattle.grid.specs.Strips.{link}
 use Rattle.shapes.specs.Shapes.{ShapeOf}
 use Rattle.shapes.specs.declared.shapes.Shape.{Shape}
 use Rattle.matching.specs.Compare.{patternAt}
+use Rattle.matching.specs.Questions.{answerAt}
 use Rattle.flags.specs.Observations.{flag-match}
-use Rattle.flags.specs.Flags.{windowFlag, linkAgrees, linksAgree, flagBy}
+use Rattle.flags.specs.Flags.{windowFlag, flagsTrue, linkAgrees, linksAgree, flagBy}
+use Rattle.flags.specs.Flags.{Work, RoomFor, roomsOf, workAfter}
 
 -- ---- a strip
 
@@ -36,6 +42,14 @@ strip-part top height rows width h = omega (arith, add-mul top height width, mul
 -- a strip has few positions
 pub strip-small : (s : Shape) (cells : ℕ) → ShapeOf s cells → s .rows * s .width ≤ 255 * 255
 strip-small s cells v = product-le (s .rows) (s .width) 255 255 (omega arith) (omega arith)
+
+-- a pattern has at least one cell, and few
+pub cells-some : (s : Shape) (cells n : ℕ) → ShapeOf s cells → n ≡ s .height * s .width → 0 < n
+cells-some s cells n v e =
+    let tall : 1 ≤ s .height = omega arith in omega (arith, e, mul-le-mul-right (s .width) tall, one-mul (s .width))
+
+pub cells-few : (s : Shape) (cells n : ℕ) → ShapeOf s cells → n ≡ s .height * s .width → n ≤ 65025
+cells-few s cells n v e = omega (arith, e, product-le (s .height) (s .width) 255 255 (omega arith) (omega arith))
 
 -- ---- links
 
@@ -123,3 +137,48 @@ flag-one q row column h =
     one : {P : Type 0} {b : Bool} → Tested P b → (_≡_ {A = ℕ} (pick b 1 0) 1) ↔ P
     one (holds p) = ((λ _. p), (λ _. refl))
     one (fails n) = ((λ e. absurd (omega arith)), (λ p. absurd (n p)))
+
+-- a flag is 1 or 0
+pub flag-is-bit : (q : Question) (k : ℕ) → (windowFlag q k ≡ 1) ⊎ (windowFlag q k ≡ 0)
+unfolding windowFlag
+flag-is-bit q k = go (isMatch (answerAt q k))
+  where
+    go : (b : Bool) → (_≡_ {A = ℕ} (pick b 1 0) 1) ⊎ (_≡_ {A = ℕ} (pick b 1 0) 0)
+    go true = inl refl
+    go false = inr refl
+
+-- flags are the truth exactly if each window's entry is its flag
+pub flags-true-tested : (q : Question) (flags : List ℕ)
+    → Tested ((k : ℕ) → k < windowsOf q → getD flags k 0 ≡ windowFlag q k) (flagsTrue q flags)
+unfolding flagsTrue
+flags-true-tested q flags =
+    every-tested {Q = λ k. getD flags k 0 ≡ windowFlag q k} (λ k. eqb (getD flags k 0) (windowFlag q k)) (windowsOf q)
+    (λ k. eq-tested (getD flags k 0) (windowFlag q k))
+
+-- ---- the flags that the first step leaves
+
+module _ (q : Question) (w after : Work) (room : RoomFor q (roomsOf w)) (is : after ≡ workAfter q w) where
+  flags-are : after .flags ≡ overFront (table (windowFlag q) (windowsOf q)) (w .flags)
+  unfolding workAfter
+  flags-are = ap (λ (v : Work). v .flags) is
+
+  -- are as many as before
+  pub flags-after-long : length (after .flags) ≡ length (w .flags)
+  flags-after-long =
+      ap length flags-are
+      ∙ length-append (table (windowFlag q) (windowsOf q))
+      (drop (length (table (windowFlag q) (windowsOf q))) (w .flags))
+      ∙ omega (
+        arith,
+        length-table (windowFlag q) (windowsOf q),
+        length-drop (length (table (windowFlag q) (windowsOf q))) (w .flags),
+        room .flags-room,
+      )
+
+  -- and each window's is the truth
+  pub flags-after-true : (k : ℕ) → k < windowsOf q → getD (after .flags) k 0 ≡ windowFlag q k
+  flags-after-true k h =
+      ap (λ (l : List ℕ). getD l k 0) flags-are
+      ∙ List·getD-append (table (windowFlag q) (windowsOf q)) _ 0 k
+      (omega (arith, length-table (windowFlag q) (windowsOf q)))
+      ∙ getD-table (windowFlag q) (windowsOf q) k 0 h

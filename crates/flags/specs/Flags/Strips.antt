@@ -16,7 +16,7 @@ use Rattle.cells.specs.Windows.Laws.{window-strip, cells-table, corner-row, cor
 use Rattle.occurrences.specs.Distinct.{distinct}
 use Rattle.grid.specs.Strips.{link, stripFrom}
 use Rattle.shapes.specs.Shapes.{ShapeOf, across, down}
-use Rattle.counts.specs.Counts.{countOf}
+use Rattle.counts.specs.Counts.{countIn}
 use Rattle.counts.specs.Counts.Laws.{window-count, place-lt}
 use Rattle.shapes.specs.declared.shapes.Shape.{Shape}
 use Rattle.matching.specs.Compare.{patternAt}
@@ -37,7 +37,7 @@ flagOf text pattern s = windowFlag (asked text pattern s)
 
 -- the counts buffer has the count of every window
 abbrev pub CountsAre : List ℕ → Shape → List ℕ → Type 0
-CountsAre text s counts = (k : ℕ) → k < down s * across s → getD counts k 0 ≡ countOf text s k
+CountsAre text s counts = (k : ℕ) → k < down s * across s → getD counts k 0 ≡ countIn text s k
 
 -- the links buffer has the links of the strip at column left
 abbrev pub LinksAre : List ℕ → Shape → ℕ → List ℕ → Type 0

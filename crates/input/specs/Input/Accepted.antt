@@ -21,7 +21,7 @@ use Rattle.shapes.specs.Questions.Laws.{sides-passed, sides-pass, size-passed, 
 use Rattle.shapes.specs.Shapes.Laws.{good-cells}
 use Rattle.shapes.specs.declared.shapes.Shape.{Shape}
 use Rattle.input.specs.Input.{rowsIn, columnsIn, heightIn, widthIn, textIn, patternIn, questionIn, fewCells}
-use Rattle.input.specs.Input.{inputSaid, RightInput, countSaid, sizesSaid}
+use Rattle.input.specs.Input.{inputSaid, RightInput, cellsGivenSaid, sizesSaid}
 
 -- ---- the tests
 
@@ -122,7 +122,7 @@ module _ (input : List ℕ) where
 
   -- else the sides and the number of bytes behind them decide
   pub by-sizes : 4 ≤ length input → sizesSaid sides (length input - 4) ≡ inputSaid input
-  unfolding inputSaid sizesSaid countSaid
+  unfolding inputSaid sizesSaid cellsGivenSaid
   by-sizes h =
       let same : eqb (length input - 4) (cells + patternCells) ≡ rightCells =
       tested-same

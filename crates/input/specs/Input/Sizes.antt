@@ -16,7 +16,7 @@ use Rattle.refusals.specs.declared.refusals.Outcome.{Outcome}
 use Rattle.refusals.specs.declared.refusals.Outcome.the-variants.{Refused}
 use Rattle.shapes.specs.Shapes.{goodSides, fits}
 use Rattle.shapes.specs.Shapes.Laws.{good-sides, product-le}
-use Rattle.input.specs.Input.{fewCells, countSaid, sizesSaid}
+use Rattle.input.specs.Input.{fewCells, cellsGivenSaid, sizesSaid}
 
 -- 8: the text has too many cells, and where it has not, the pattern decides
 pub text-many : (cells patternCells : ℕ) → 16384 < cells → false ≡ fewCells cells patternCells
@@ -27,17 +27,17 @@ text-few cells patternCells h = rw (le-leb cells 16384 h)
 
 -- 8, then 3
 module _ (cells patternCells given : ℕ) where
-  pub many-refused : fewCells cells patternCells ≡ false → refuses 8 [] ≡ countSaid cells patternCells given
-  unfolding countSaid
+  pub many-refused : fewCells cells patternCells ≡ false → refuses 8 [] ≡ cellsGivenSaid cells patternCells given
+  unfolding cellsGivenSaid
   many-refused a = rw a
 
   module _ (few : fewCells cells patternCells ≡ true) where
-    pub given-refused : eqb given (cells + patternCells) ≡ false → refuses 3 [] ≡ countSaid cells patternCells given
-    unfolding countSaid
+    pub given-refused : eqb given (cells + patternCells) ≡ false → refuses 3 [] ≡ cellsGivenSaid cells patternCells given
+    unfolding cellsGivenSaid
     given-refused b = rw (few, b)
 
-    pub given-accepted : eqb given (cells + patternCells) ≡ true → accepts [] ≡ countSaid cells patternCells given
-    unfolding countSaid
+    pub given-accepted : eqb given (cells + patternCells) ≡ true → accepts [] ≡ cellsGivenSaid cells patternCells given
+    unfolding cellsGivenSaid
     given-accepted b = rw (few, b)
 
 -- a product of two good sides is small
@@ -58,12 +58,12 @@ module _ (rows columns height width given : ℕ) where
 
   module _ (good : goodSides rows columns height width ≡ true) where
     pub cells-refused : (o : Outcome) (why : Refusal) → o ≡ Refused why
-        → outcomeSaid o ≡ countSaid (rows * columns) (height * width) given
+        → outcomeSaid o ≡ cellsGivenSaid (rows * columns) (height * width) given
         → outcomeSaid o ≡ sizesSaid (fourSides rows columns height width) given
     unfolding sizesSaid sidesSaid
-    cells-refused o why e d = rw good (then-stopped o why (countSaid (rows * columns) (height * width) given) _ e d)
+    cells-refused o why e d = rw good (then-stopped o why (cellsGivenSaid (rows * columns) (height * width) given) _ e d)
 
-    module _ (passed : countSaid (rows * columns) (height * width) given ≡ accepts []) where
+    module _ (passed : cellsGivenSaid (rows * columns) (height * width) given ≡ accepts []) where
       pub size-refused : fits rows columns height width ≡ false
           → refuses 4 [] ≡ sizesSaid (fourSides rows columns height width) given
       unfolding sizesSaid sidesSaid sizeSaid

@@ -11,8 +11,8 @@ use Rattle.shapes.specs.Shapes.{corners, windows}
 use Rattle.shapes.specs.Shapes.Laws.{product-le}
 use Rattle.flags.specs.Flags.{rooms, RoomFor}
 use Rattle.entries.specs.Listing.{foundIn, refusedIn, neededLength}
-use Rattle.search.specs.Search.{searchSaid}
-use Rattle.search.specs.Search.Accepted.{search-accepted, search-short, search-passed}
+use Rattle.searched.specs.Search.{searchSaid}
+use Rattle.searched.specs.Search.Accepted.{search-accepted, search-short, search-passed}
 use Rattle.input.specs.Input.Accepted.{text-length, pattern-length, input-passes, input-passed}
 use Rattle.input.specs.Input.{rowsIn, columnsIn, heightIn, widthIn, questionIn, inputSaid, RightInput}
 use Rattle.program.specs.Program.{ownSaid, programSaid}

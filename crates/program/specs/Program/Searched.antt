@@ -18,11 +18,11 @@ use Rattle.listing.specs.Entries.{bytesAll}
 use Rattle.refusals.specs.Said.{accepts, outcomeSaid}
 use Rattle.shapes.specs.Questions.{ask}
 use Rattle.flags.specs.Flags.{Rooms, rooms, roomsOf}
-use Rattle.search.specs.Search.{Lent, Done, done, searchedSaid, searchSaid, searchOf}
-use Rattle.search.specs.Search.Accepted.{said-is}
-use Rattle.search.specs.Search.Outcome.{listed-fits, listed-bytes, listed-inside}
-use Rattle.search.specs.declared.search.Searched.{Searched}
-use Rattle.search.specs.declared.search.Searched.the-variants.{Listed, Refused}
+use Rattle.searched.specs.Search.{Lent, Done, done, searchedSaid, searchSaid, searchOf}
+use Rattle.searched.specs.Search.Accepted.{said-is}
+use Rattle.searched.specs.Search.Outcome.{listed-fits, listed-bytes, listed-inside}
+use Rattle.searched.specs.declared.answer.Searched.{Searched}
+use Rattle.searched.specs.declared.answer.Searched.the-variants.{Listed, Refused}
 use Rattle.printing.specs.Lines.{refusalLine, Recorded}
 use Rattle.printing.specs.Lines.Front.{Begins, BeginsWithLines}
 use Rattle.input.specs.Input.{rowsIn, columnsIn, heightIn, widthIn, textIn, patternIn, questionIn, inputSaid}

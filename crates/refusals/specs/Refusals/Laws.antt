@@ -14,7 +14,7 @@ use Rattle.refusals.specs.declared.refusals.Reason.the-variants.{SizesMi
 use Rattle.refusals.specs.declared.refusals.Reason.the-variants.{CornerOutside, TooManyCells, LinksBufferShort}
 use Rattle.refusals.specs.declared.refusals.Reason.the-variants.{WindowBufferShort, HasOtherImage}
 use Rattle.refusals.specs.declared.refusals.Reason.the-variants.{HasOtherPreimage}
-use Rattle.refusals.specs.declared.refusals.Reason.the-variants.{ColumnsDisagree}
+use Rattle.refusals.specs.declared.refusals.Reason.the-variants.{ColumnsDisagree, FlagsFalse}
 use Rattle.refusals.specs.declared.refusals.Refusal.the-variants.{Plain, ListingForm, ListingFalse}
 use Rattle.refusals.specs.declared.refusals.Refusal.the-variants.{ListingBufferShort, CursorSpent}
 use Rattle.refusals.specs.Refusals.{reasonNumber, numberOf, valuesOf}
@@ -32,6 +32,7 @@ reason-positive WindowBufferShort = omega arith
 reason-positive HasOtherImage = omega arith
 reason-positive HasOtherPreimage = omega arith
 reason-positive ColumnsDisagree = omega arith
+reason-positive FlagsFalse = omega arith
 
 pub number-positive : (why : Refusal) → 0 < numberOf why
 number-positive (Plain why) = reason-positive why

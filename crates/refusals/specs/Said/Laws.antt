@@ -4,7 +4,7 @@
 use mathlib.Core.Path.{_≡_, refl, sym, _∙_, ap}
 use mathlib.Core.Bool.{Bool, true, false}
 use mathlib.Core.List.{List, []}
-use Prim.Native.Nat.{ℕ, _<_}
+use Prim.Native.Nat.{ℕ, _≤_, _<_}
 use native.Mathlib.Omega.{arith}
 use Rattle.theory.specs.Test.{both}
 use Rattle.theory.specs.Test.Laws.{true-false}
@@ -127,3 +127,27 @@ numbered-proper refusing h = refused-by _ [] h
 pub zero-accepts : (a : Said) → Proper a → saidNumber a ≡ 0 → (values : List ℕ) × (a ≡ accepts values)
 zero-accepts (accepts values) p e = (values, refl)
 zero-accepts (refuses number values) (refused-by n v h) e = absurd (omega (arith, h, e))
+
+-- ---- numbers at most n
+
+-- what refuses does so by a number of at most n
+pub data AtMost (n : ℕ) : Said → Type 0 where
+  none-given : (values : List ℕ) → AtMost n (accepts values)
+  given-below : (number : ℕ) (values : List ℕ) → number ≤ n → AtMost n (refuses number values)
+
+pub check-at-most : (n : ℕ) (ok : Bool) (number : ℕ) (values : List ℕ) → number ≤ n
+    → AtMost n (checkWith ok number values)
+check-at-most n true number values h = none-given []
+check-at-most n false number values h = given-below number values h
+
+pub then-at-most : {n : ℕ} {a b : Said} → AtMost n a → AtMost n b → AtMost n (a then b)
+then-at-most (none-given values) b = b
+then-at-most (given-below number values h) b = given-below number values h
+
+pub numbered-at-most : {number : ℕ} {a : Said} (n : ℕ) → Numbered number a → number ≤ n → AtMost n a
+numbered-at-most n passing h = none-given []
+numbered-at-most n refusing h = given-below _ [] h
+
+pub number-at-most : (n : ℕ) (a : Said) → AtMost n a → saidNumber a ≤ n
+number-at-most n (accepts values) m = omega arith
+number-at-most n (refuses number values) (given-below k v h) = h

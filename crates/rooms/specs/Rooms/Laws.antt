@@ -1,5 +1,5 @@
 -- 2, 3, 4, 9, 10 in their order: each number where its test fails and the earlier ones pass; nothing is refused
--- exactly if there is room.
+-- exactly if there is room. The same of 2, 3, 4, 10 for flags alone.
 -- Assumes nothing.
 use mathlib.Core.Path.{_≡_, sym}
 use mathlib.Core.Bool.{Bool}
@@ -11,13 +11,13 @@ use Rattle.theory.specs.Test.{both, Tested}
 use Rattle.theory.specs.Test.Laws.{both-tested, le-tested, says-true}
 use Rattle.refusals.specs.Said.{accepts, refuses, _then_, check, outcomeSaid}
 use Rattle.refusals.specs.Said.Laws.{then-stopped, then-both, check-passed, check-true}
-use Rattle.shapes.specs.Questions.{Question, shapeSaid, linksNeeded, windowsOf}
+use Rattle.shapes.specs.Questions.{Question, Posed, shapeSaid, linksNeeded, windowsOf}
 use Rattle.shapes.specs.Questions.Laws.{posed, posed-said}
 use Rattle.refusals.specs.declared.refusals.Refusal.{Refusal}
 use Rattle.refusals.specs.declared.refusals.Outcome.{Outcome}
 use Rattle.refusals.specs.declared.refusals.Outcome.the-variants.{Refused}
 use Rattle.flags.specs.Flags.{Rooms, RoomFor}
-use Rattle.rooms.specs.Rooms.{roomSaid}
+use Rattle.rooms.specs.Rooms.{roomSaid, flagsRoomSaid}
 
 module _ (q : Question) (w : Rooms) where
   abbrev windowsGood : Bool
@@ -84,3 +84,31 @@ module _ (q : Question) (w : Rooms) where
   room-passes r =
       sym (room-accepted (posed-said q (record { shape = r .shape; size = r .size })) (r .links-room) (r .counts-room)
       (r .flags-room))
+
+-- ---- of flags alone
+
+module _ (q : Question) (flags : ℕ) where
+  pub flags-room-stopped : (o : Outcome) (why : Refusal) → o ≡ Refused why → outcomeSaid o ≡ shapeSaid q
+      → outcomeSaid o ≡ flagsRoomSaid q flags
+  unfolding flagsRoomSaid
+  flags-room-stopped o why e d = then-stopped o why (shapeSaid q) _ e d
+
+  module _ (shape : shapeSaid q ≡ accepts []) where
+    pub flags-room-refused : flags < windowsOf q → refuses 10 [] ≡ flagsRoomSaid q flags
+    unfolding flagsRoomSaid
+    flags-room-refused h = rw (shape, lt-leb (windowsOf q) flags h)
+
+    pub flags-room-accepted : windowsOf q ≤ flags → accepts [] ≡ flagsRoomSaid q flags
+    unfolding flagsRoomSaid
+    flags-room-accepted h = rw (shape, le-leb (windowsOf q) flags h)
+
+  -- nothing is refused exactly if the question is posed and there is a flag for every window
+  pub flags-room-passed : (returned : List ℕ) → flagsRoomSaid q flags ≡ accepts returned
+      → Posed q × (windowsOf q ≤ flags)
+  unfolding flagsRoomSaid
+  flags-room-passed returned e =
+      let a = then-both (shapeSaid q) (check (leb (windowsOf q) flags) 10) returned e in
+      (posed q (a .0 .0) (a .0 .1), says-true (le-tested (windowsOf q) flags) (check-true _ 10 [] returned (a .1)))
+
+  pub flags-room-passes : Posed q → windowsOf q ≤ flags → flagsRoomSaid q flags ≡ accepts []
+  flags-room-passes p h = sym (flags-room-accepted (posed-said q p) h)

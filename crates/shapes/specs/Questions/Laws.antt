@@ -2,7 +2,7 @@
 -- Assumes nothing.
 use mathlib.Core.Path.{_≡_, sym}
 use mathlib.Core.List.{List, []}
-use Prim.Native.Nat.{ℕ, _*_}
+use Prim.Native.Nat.{ℕ, _*_, _≤_}
 use native.Mathlib.Omega.{arith}
 use lib.ListN.{length}
 use Rattle.theory.specs.Test.Laws.{says-true, is-true}
@@ -11,7 +11,7 @@ use Rattle.shapes.specs.Shapes.{Sides, Fits, ShapeOf, goodSides, fits}
 use Rattle.shapes.specs.Shapes.Laws.{good-sides, good-cells, fits-tested}
 use Rattle.refusals.specs.Said.{accepts, _then_}
 use Rattle.refusals.specs.Said.Laws.{Numbered, check-numbered, then-numbered, check-accepts, check-true, then-both}
-use Rattle.refusals.specs.Said.Laws.{Proper, then-proper, numbered-proper}
+use Rattle.refusals.specs.Said.Laws.{Proper, then-proper, numbered-proper, AtMost, then-at-most, numbered-at-most}
 use Rattle.shapes.specs.Questions.{Grid, Question, sidesOf, sidesSaid, gridGood, gridSaid, cellsSaid, sizeSaid}
 use Rattle.shapes.specs.Questions.{shapeSaid, textOf, textSaid, Posed}
 
@@ -35,6 +35,14 @@ unfolding shapeSaid
 shape-proper q =
     then-proper (numbered-proper (sides-numbered (sidesOf q)) (omega arith))
     (then-proper (numbered-proper (cells-numbered q) (omega arith)) (numbered-proper (size-numbered (sidesOf q)) (omega arith)))
+
+-- and none is above 4
+pub shape-at-most : (q : Question) (n : ℕ) → 4 ≤ n → AtMost n (shapeSaid q)
+unfolding shapeSaid
+shape-at-most q n h =
+    then-at-most (numbered-at-most n (sides-numbered (sidesOf q)) (omega arith))
+    (then-at-most (numbered-at-most n (cells-numbered q) (omega arith))
+    (numbered-at-most n (size-numbered (sidesOf q)) h))
 
 -- ---- what each part passes
 

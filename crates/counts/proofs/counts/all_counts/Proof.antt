@@ -9,13 +9,13 @@ use denote.Ref.{now}
 use Rattle.theory.specs.Store.{storedRows}
 use Rattle.theory.specs.Store.Laws.{rows-none, length-rows, rows-more}
 use Rattle.shapes.specs.Shapes.{across, down}
-use Rattle.counts.specs.Counts.{countOf}
+use Rattle.counts.specs.Counts.{countIn}
 use Rattle.counts.proofs.counts.all_counts.Statement.{statement}
 use Rattle.counts.proofs.counts.all_counts.Tie as tie
 
 abbrev Inv-loop : tie.InvT-loop
 Inv-loop text s counts₀ width occurrences₀ left₀ counts occurrences left =
-    (left ≤ width) × (counts ≡ storedRows (countOf text s) (λ left top. top * across s + left) left (down s) counts₀) × (length occurrences ≡ 256)
+    (left ≤ width) × (counts ≡ storedRows (countIn text s) (λ left top. top * across s + left) left (down s) counts₀) × (length occurrences ≡ 256)
 
 abbrev μ-loop : tie.MeasureT-loop
 μ-loop text s counts₀ width occurrences₀ left₀ counts occurrences left = width - left
@@ -51,7 +51,7 @@ loop-again c = (
   omega arith,
   let o = c .before .before .before .before .before .before .before .before .before .before .before in
       rw (add-one (c .before .before .before .before .before .before .loop .left))
-      (rows-more (countOf (now (o .args .text)) (o .args .s)) (λ left top. top * across (o .args .s) + left) _ _ _ _ _ (c .before .before .before .before .before .before .loop .inv .1) (c .before .before .strip-counts .ensures .0)),
+      (rows-more (countIn (now (o .args .text)) (o .args .s)) (λ left top. top * across (o .args .s) + left) _ _ _ _ _ (c .before .before .before .before .before .before .loop .inv .1) (c .before .before .strip-counts .ensures .0)),
   c .before .before .strip-counts .ensures .1,
 )
 

@@ -11,7 +11,7 @@ use Rattle.theory.specs.Store.{stored}
 use Rattle.theory.specs.Store.Laws.{stored-none, length-stored, stored-more}
 use Rattle.occurrences.specs.Occurrences.{Tracks, occurrencesOf}
 use Rattle.shapes.specs.Shapes.{across, down}
-use Rattle.counts.specs.Counts.{stripCells, countOf}
+use Rattle.counts.specs.Counts.{stripCells, countIn}
 use Rattle.counts.specs.Counts.Laws.{place-lt, windows-small, size-small, count-at}
 use Rattle.counts.proofs.counts.strip_counts.Statement.{statement}
 use Rattle.counts.proofs.counts.strip_counts.Tie as tie
@@ -19,7 +19,7 @@ use Rattle.counts.proofs.counts.strip_counts.Tie as tie
 abbrev Inv-loop : tie.InvT-loop
 Inv-loop occurrences₀ text s left counts₀ width height size₀ top₀ occurrences counts size top =
     (top ≤ height) × (top < height → Tracks (occurrencesOf occurrences size) (stripCells text s top left (s .height))) ×
-    (counts ≡ stored (countOf text s) (λ top. top * across s + left) top counts₀) × (length occurrences ≡ 256)
+    (counts ≡ stored (countIn text s) (λ top. top * across s + left) top counts₀) × (length occurrences ≡ 256)
 
 abbrev μ-loop : tie.MeasureT-loop
 μ-loop occurrences₀ text s left counts₀ width height size₀ top₀ occurrences counts size top = height - top
@@ -96,7 +96,7 @@ loop-again c = (
   let o = c .before .before .before .before .before .before .before .before .before .before .before .before .before .before in
       let i = c .before .before .before .loop .inv in
       rw (add-one (c .before .before .before .loop .top))
-      (stored-more (countOf (now (o .args .text)) (o .args .s)) (λ top. top * across (o .args .s) + o .args .left) _ _ _ _ (i .2)
+      (stored-more (countIn (now (o .args .text)) (o .args .s)) (λ top. top * across (o .args .s) + o .args .left) _ _ _ _ (i .2)
       (count-at (now (o .args .text)) (o .args .s) (c .before .before .before .loop .top) (o .args .left) _ (o .pre .1) (i .1 (c .before .before .loop-test .taken)))),
   c .slide .ensures .1,
 )

@@ -7,7 +7,7 @@ use borrow.Author.Needs.{needs}
 use denote.Ref.{now}
 use Rattle.shapes.specs.Questions.{ask}
 use Rattle.entries.specs.Listing.{searchRecords}
-use Rattle.search.specs.Search.Outcome.{listed-fits, listed-bytes, listed-length, listed-inside}
+use Rattle.searched.specs.Search.Outcome.{listed-fits, listed-bytes, listed-length, listed-inside}
 use Rattle.drafts.proofs.running.run_in.Statement.{statement}
 use Rattle.drafts.proofs.running.run_in.Tie as tie
 

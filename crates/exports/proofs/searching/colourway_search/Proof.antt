@@ -5,7 +5,7 @@ use mathlib.Core.Path.{_∙_, ap}
 use borrow.Author.Needs.{needs}
 use denote.Ref.{now}
 use Rattle.refusals.specs.Said.{saidNumber}
-use Rattle.search.specs.Search.{Done}
+use Rattle.searched.specs.Search.{Done}
 use Rattle.returned.specs.Returned.{valuesBy}
 use Rattle.exports.proofs.searching.colourway_search.Statement.{statement}
 use Rattle.exports.proofs.searching.colourway_search.Tie as tie

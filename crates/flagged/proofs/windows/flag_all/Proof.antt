@@ -7,7 +7,7 @@ use denote.Ref.{now}
 use Rattle.refusals.specs.Said.Laws.{same-buffer}
 use Rattle.flags.specs.Flags.Laws.{strip-small}
 use Rattle.alike.specs.Pairs.{pairs-none}
-use Rattle.flagging.specs.Windows.{cells-some, cells-few}
+use Rattle.flags.specs.Flags.Laws.{cells-some, cells-few}
 use Rattle.flagged.specs.Steps.{counts-there, counts-long, counts-over, flags-over, links-over, marks-over}
 use borrow.Author.Needs.{needs}
 use Rattle.flagged.proofs.windows.flag_all.Statement.{statement}

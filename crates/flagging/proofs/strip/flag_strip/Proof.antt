@@ -7,7 +7,8 @@ use Prim.Native.Nat.{_+_, _-_, _*_, _≤_, _<_}
 use Rattle.shapes.specs.Shapes.{across, down}
 use Rattle.shapes.specs.Shapes.Laws.{product-le}
 use Rattle.counts.specs.Counts.Laws.{place-lt, windows-small}
-use Rattle.flagging.specs.Windows.{WindowsTo, cells-few, windows-first, windows-ask, windows-more, windows-flagged}
+use Rattle.flags.specs.Flags.Laws.{cells-few}
+use Rattle.flagging.specs.Windows.{WindowsTo, windows-first, windows-ask, windows-more, windows-flagged}
 use Rattle.flagging.proofs.strip.flag_strip.Statement.{statement}
 use Rattle.flagging.proofs.strip.flag_strip.Tie as tie
 

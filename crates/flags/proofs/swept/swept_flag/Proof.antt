@@ -16,8 +16,13 @@ returns c =
 
 pairs-pass-requires : tie.Need-pairs-pass-requires
 pairs-pass-requires c κs =
-    let o = c .before .before .before in
-    (record { shape = o .pre .0 .shape; size = o .pre .0 .cells; beside = o .pre .1; pairs = o .pre .3 }, o .pre .2)
+    let o = c .before .before .before in (
+      record {
+        strip = record { shape = o .pre .0 .shape; size = o .pre .0 .cells; beside = o .pre .1 };
+        pairs = o .pre .3;
+      },
+      o .pre .2,
+    )
 
 returns-2 : tie.Need-returns-2
 returns-2 c =

@@ -9,7 +9,7 @@ use mathlib.Core.List.{[]}
 use Rattle.refusals.specs.Said.{accepts}
 use Rattle.refusals.specs.Said.Laws.{passed-said}
 use Rattle.shapes.specs.Shapes.{goodSides}
-use Rattle.input.specs.Input.{countSaid}
+use Rattle.input.specs.Input.{cellsGivenSaid}
 use Rattle.input.specs.Input.Sizes.{sides-refused, cells-small, cells-refused, size-refused, sizes-accepted}
 use borrow.Author.Needs.{needs}
 use Rattle.input.proofs.input.sizes_outcome.Statement.{statement}
@@ -21,7 +21,7 @@ good c = sym (c .before .good-sides .ensures) ∙ not-false _ (c .if1 .left)
 
 -- and so are the cells
 passed : (c : tie.After-enum-told) → let a = c .before .before .before .before .before .args in
-    countSaid (a .rows * a .columns) (a .height * a .width) (a .given) ≡ accepts []
+    cellsGivenSaid (a .rows * a .columns) (a .height * a .width) (a .given) ≡ accepts []
 passed c = passed-said _ _ (c .enum-told .given .1) (c .before .before .count-outcome .ensures)
 
 good-sides-requires : tie.Need-good-sides-requires

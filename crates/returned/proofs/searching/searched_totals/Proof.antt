@@ -5,8 +5,8 @@ use mathlib.Core.Path.{sym, ap, _∙_}
 use Prim.Native.Nat.{ℕ}
 use lib.ListN.{set}
 use borrow.Author.Needs.{needs}
-use Rattle.search.specs.Search.{searchedSaid}
-use Rattle.search.specs.declared.search.Searched.{Searched}
+use Rattle.searched.specs.Search.{searchedSaid}
+use Rattle.searched.specs.declared.answer.Searched.{Searched}
 use Rattle.returned.specs.Returned.{valuesBy}
 use Rattle.returned.specs.Returned.Laws.{value-stored}
 use Rattle.returned.proofs.searching.searched_totals.Statement.{statement}

@@ -10,9 +10,9 @@ use Rattle.refusals.specs.Said.{accepts}
 use Rattle.refusals.specs.Said.Laws.{passed-said}
 use Rattle.shapes.specs.Questions.{Question, ask}
 use Rattle.flags.specs.Flags.{roomsOf}
-use Rattle.search.specs.Search.{Lent, lend}
+use Rattle.searched.specs.Search.{Lent, lend}
 use Rattle.rooms.specs.Rooms.{roomSaid}
-use Rattle.search.specs.Search.Accepted.{search-stopped, search-goes}
+use Rattle.searched.specs.Search.Accepted.{search-stopped, search-goes}
 use Rattle.rooms.specs.Rooms.Laws.{room-passed}
 use borrow.Author.Needs.{needs}
 use Rattle.search.proofs.search.search.Statement.{statement}

@@ -1,0 +1,2 @@
+// Whether flags that someone hands over are the truth, found strip by strip with no links and no counts.
+pub mod strips;
