@@ -24,7 +24,9 @@
  *
  * Stack. From its caller's frame down a call touches, at most:
  *
- *     colourway_search                                        17 KiB
+ *     colourway_search                                        18 KiB
+ *     colourway_count                                         15 KiB
+ *     colourway_list                                          22 KiB
  *     colourway_check                                         15 KiB
  *     colourway_one_window                                     7 KiB
  *     colourway_bijection_compose                              6 KiB
@@ -34,12 +36,13 @@
  *     colourway_strip_links                                    1 KiB
  *     all others                                             256 bytes
  *
- * The search takes about that much whatever the size of its text, and also where it refuses. The figures are measured
- * and not proved: the lowest byte touched of a painted stack, rounded up. Those of search, check and one_window are
- * from texts of 255 by 255 of six kinds and patterns with sides 1, 2, 64 and 255, and of the search refused by 2; the
- * others from texts and patterns from 1 by 1 to 255 by 255 and from refused calls. A test runs every operation in a
- * thread of 64 KiB. What memcpy and memset take is in them, but not the 4 KiB that the dynamic linker takes once, at
- * the first call of either, in a program that binds lazily (-Wl,-z,now spares them).
+ * Search, count and list take about that much whatever the size of their text, list also where it refuses by 16 or 11.
+ * The figures are measured and not proved: the lowest byte touched of a painted stack, rounded up. Those of search,
+ * count, list, check and one_window are from texts of 255 by 255 of six kinds and patterns with sides 1, 2, 64 and 255,
+ * of search, count and list also refused by 2, and of list by 16 and 11; the others from texts and patterns from 1 by 1
+ * to 255 by 255 and from refused calls. A test runs every operation in a thread of 64 KiB. What memcpy and memset take
+ * is in them, but not the 4 KiB that the dynamic linker takes once, at the first call of either, in a program that
+ * binds lazily (-Wl,-z,now spares them).
  *
  * The first draft of document 01, in full:
  *
@@ -64,6 +67,19 @@
  *     }
  *
  * It prints a line for each of the kinds 1, 2, 2, 3 and 5, and then '1 found, 1 refused, 21 bytes'.
+ *
+ * The search also comes in two: count, allocate, list. So the listing gets just the room that it needs, and none where
+ * the number of matches is enough. With <stdlib.h>, and no array listing, in place of the call above:
+ *
+ *         uint8_t why = colourway_count(text, 6, 2, 3, pattern, 4, 2, 2,
+ *             links, 4, counts, 2, flags, 2, totals);
+ *         if (why != COLOURWAY_ACCEPTED)
+ *             return 1;
+ *         uint8_t *listing = malloc(totals[2]);
+ *         if (listing == NULL)
+ *             return 1;
+ *         why = colourway_list(text, 6, 2, 3, pattern, 4, 2, 2,
+ *             flags, 2, listing, totals[2], totals);
  */
 #ifndef COLOURWAY_H
 #define COLOURWAY_H
@@ -112,7 +128,9 @@ enum colourway_refusal {
     /* The columns of a bijection disagree or hold a number above 256. */
     COLOURWAY_COLUMNS_DISAGREE = 14,
     /* The cursor is at or past the end of the listing. */
-    COLOURWAY_CURSOR_SPENT = 15
+    COLOURWAY_CURSOR_SPENT = 15,
+    /* The flag (mark) of some window is not the truth: not 1 where the pattern matches, or not 0 where it does not. */
+    COLOURWAY_FLAGS_FALSE = 16
 };
 
 /*
@@ -218,8 +236,11 @@ uint8_t colourway_one_window(
  * leaves them, a flag is 1 for found and 0 for refused; and the listing. What lies beyond stays.
  *
  * Refused by 2, 3, 4, 9, 10, 11, in this order. 11 writes the length needed to totals[2] and leaves totals[0] and
- * totals[1]; links, counts and flags are as after an accepted search, and the listing buffer is untouched: call it with
- * no room for the listing to learn how much it needs. The others leave everything.
+ * totals[1]; links, counts and flags are as after an accepted search, and the listing buffer is untouched. The others
+ * leave everything.
+ *
+ * The search is colourway_count followed by colourway_list on the flags that it left: the number, totals and every
+ * buffer. Where the count refuses, that is the search's answer. It never gives 16.
  */
 uint8_t colourway_search(
     const uint8_t *text, size_t text_length,
@@ -229,6 +250,43 @@ uint8_t colourway_search(
     uint16_t *links, size_t links_length,
     uint16_t *counts, size_t counts_length,
     uint8_t *flags, size_t flags_length,
+    uint8_t *listing, size_t listing_length,
+    size_t totals[3]);
+
+/*
+ * The first half of the search: compares the pattern with every window of the text and lists nothing. Totals are found,
+ * refused, and the length that the listing would have.
+ *
+ * Lent are links, counts and flags (marks), each as long as for the search. It leaves in them what the search does.
+ *
+ * Refused by 2, 3, 4, 9, 10, in this order, which leave everything.
+ */
+uint8_t colourway_count(
+    const uint8_t *text, size_t text_length,
+    size_t rows, size_t columns,
+    const uint8_t *pattern, size_t pattern_length,
+    size_t height, size_t width,
+    uint16_t *links, size_t links_length,
+    uint16_t *counts, size_t counts_length,
+    uint8_t *flags, size_t flags_length,
+    size_t totals[3]);
+
+/*
+ * The second half of the search: writes the listing of a text and a pattern from the flags (marks) of its windows,
+ * which colourway_count left or which come from elsewhere. Totals and listing are those of the search. The flags are
+ * only read.
+ *
+ * Refused by 2, 3, 4, 10, 16, 11, in this order: 10 where the flags are fewer than the windows; 16 where the flag of
+ * some window is not the truth, which is 1 where the pattern matches it and 0 where it does not, and never 2 to 255.
+ * All windows are judged before the listing's room is, and what lies behind the last window's flag counts for nothing.
+ * 11 writes the length needed to totals[2] and leaves all else. The others leave everything.
+ */
+uint8_t colourway_list(
+    const uint8_t *text, size_t text_length,
+    size_t rows, size_t columns,
+    const uint8_t *pattern, size_t pattern_length,
+    size_t height, size_t width,
+    const uint8_t *flags, size_t flags_length,
     uint8_t *listing, size_t listing_length,
     size_t totals[3]);
 

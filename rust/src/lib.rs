@@ -1,5 +1,5 @@
 //! Safe wrappers of the proved operations on texts, windows, symbol sets and bijections, of the one-window question,
-//! and of the search with its listing, the listing's reader and its check.
+//! and of the search with its listing, in one call or in two, the listing's reader and its check.
 //!
 //! A text (document 01's sheet) is `rows` by `columns` symbols (yarn numbers), one byte each, row by row; a pattern
 //! (motif) is `height` by `width`, laid out likewise. A window is the `height` by `width` part of the text at a corner
@@ -50,6 +50,12 @@
 //! # Ok::<(), Box<dyn std::error::Error>>(())
 //! ```
 //!
+//! # Count first, list later
+//!
+//! [`search`] is [`count`] followed by [`list`]. Where the number of matches decides what comes next, call [`count`]
+//! alone: it needs no room for a listing, and tells how long it would be. [`list`] then needs nothing but the flags
+//! that the count left; it has an example.
+//!
 //! # Refused by number
 //!
 //! | No. | [`Refusal`] | Condition | Given by |
@@ -62,23 +68,25 @@
 //! | 6 | [`ListingForm`] | the listing has the wrong form | [`read`], [`check`] |
 //! | 7 | [`ListingFalse`] | the listing states what is not so | [`check`] |
 //! | 8 | [`TooManyCells`] | text or pattern has more than 16,384 cells | the program |
-//! | 9 | [`LinksBufferShort`] | the links buffer is shorter than rows × width | [`strip_links`], [`search`] |
-//! | 10 | [`WindowBufferShort`] | flags or counts are fewer than the windows | [`distinct_counts`], [`search`] |
-//! | 11 | [`ListingBufferShort`] | the listing buffer is shorter than the listing | [`search`], the program |
+//! | 9 | [`LinksBufferShort`] | links are fewer than rows × width | [`strip_links`], [`search`], [`count`] |
+//! | 10 | [`WindowBufferShort`] | flags or counts are fewer than the windows | [`distinct_counts`] and see below |
+//! | 11 | [`ListingBufferShort`] | the buffer is shorter than the listing | [`search`], [`list`], the program |
 //! | 12 | [`HasOtherImage`] | the pattern symbol already has another image | [`Bijection::pair`] |
 //! | 13 | [`HasOtherPreimage`] | the text symbol is already another's image | [`Bijection::pair`] |
 //! | 14 | [`ColumnsDisagree`] | columns that disagree or hold a number above 256 | [`Bijection`]'s operations |
 //! | 15 | [`CursorSpent`] | the cursor is at or past the end of the listing | [`read`] |
+//! | 16 | [`FlagsFalse`] | the flag of some window is not the truth | [`list`] |
 //!
-//! 2, 3 and 4 are given by [`strip_links`], [`distinct_counts`], [`one_window`], [`search`], [`check`] and the program.
-//! Where an input earns several, the first in an operation's order is given. The order is 2, 3, 4, 5, 9, 10, 11 for
-//! those an operation has; 14, 12, 13 for a bijection; 15, 6 for the reader; 2, 3, 4 for the check, and then 6 or 7 by
-//! its first bad record.
+//! 2, 3 and 4 are given by [`strip_links`], [`distinct_counts`], [`one_window`], [`search`], [`count`], [`list`],
+//! [`check`] and the program; 10 also by [`search`] and [`count`], and by [`list`] for its flags. Where an input earns
+//! several, the first in an operation's order is given. The order is 2, 3, 4, 5, 9, 10, 16, 11 for those an operation
+//! has; 14, 12, 13 for a bijection; 15, 6 for the reader; 2, 3, 4 for the check, and then 6 or 7 by its first bad
+//! record.
 //!
-//! A refusal changes no buffer but where an operation says so: 11 alone does. What it returns besides its number is in
-//! the typed refusal: the length needed of 11 in [`SearchRefusal`], the place of the bad record of 6 and 7 in
-//! [`CheckRefusal`], the cursor's place of 15 and 6 in [`ReadRefusal`]. The operations whose names end in `_into` write
-//! that value where the answer's own would go, and leave all else.
+//! A refusal changes no buffer but where an operation says so: 11 of [`search`] alone does. What it returns besides its
+//! number is in the typed refusal: the length needed of 11 in [`SearchRefusal`], the place of the bad record of 6 and 7
+//! in [`CheckRefusal`], the cursor's place of 15 and 6 in [`ReadRefusal`]. The operations whose names end in `_into`
+//! write that value where the answer's own would go, and leave all else.
 //!
 //! # Stack
 //!
@@ -86,7 +94,9 @@
 //!
 //! | Operation | Stack |
 //! |---|---|
-//! | [`search`] | 17 KiB |
+//! | [`search`] | 18 KiB |
+//! | [`count`] | 15 KiB |
+//! | [`list`] | 22 KiB |
 //! | [`check`] | 15 KiB |
 //! | [`one_window`] | 7 KiB |
 //! | [`Bijection::compose`] | 6 KiB |
@@ -96,14 +106,15 @@
 //! | [`strip_links`] | 1 KiB |
 //! | all others | 256 bytes |
 //!
-//! The search takes about that much whatever the size of its text, and also where it refuses. A wrapper adds its own
-//! locals, of which a [`Bijection`], 1 KiB, is the largest. The figures are measured and not proved;
+//! The first three take about that much whatever the size of their text, [`list`] also where it refuses by 16 or 11. A
+//! wrapper adds its own locals, of which a [`Bijection`], 1 KiB, is the largest. The figures are measured and not proved;
 //! `include/colourway.h` says how. The test `stack` runs every operation in a thread of 64 KiB.
 //!
 //! # To build and test
 //!
 //! `rt staticlib exports` and `rt check colourway` at the repository's top, then `cargo test --release --offline` here.
-//! To measure the search beside a plain one, and the check beside the search: `cargo run --release --offline -p bench`.
+//! To measure the search beside a plain one, and count, list and check beside the search:
+//! `cargo run --release --offline -p bench`.
 //! `include/colourway.h` has the same operations for C, and how to link them.
 //!
 //! [`SizesMissing`]: Refusal::SizesMissing
@@ -121,25 +132,30 @@
 //! [`HasOtherPreimage`]: Refusal::HasOtherPreimage
 //! [`ColumnsDisagree`]: Refusal::ColumnsDisagree
 //! [`CursorSpent`]: Refusal::CursorSpent
+//! [`FlagsFalse`]: Refusal::FlagsFalse
 
 #![warn(missing_docs)]
 
 mod bijections;
 mod check;
 mod compare;
+mod count_list;
 mod foreign;
 mod reader;
 mod search;
+mod texts;
 
 pub use bijections::{Bijection, NONE};
 pub use check::{check, check_into, CheckRefusal, Checked};
 pub use compare::{one_window, one_window_into, WindowAnswer};
+pub use count_list::{count, count_into, list, list_into, CountBuffers};
 pub use reader::{read, read_into, records, Place, ReadRefusal, Record, Records};
 pub use search::{search, search_into, Buffers, SearchRefusal, Totals};
+pub use texts::{distinct_counts, strip_links, window_cell};
 
 use std::fmt;
 
-/// By what an operation refuses its input, a buffer lent to it, a listing, a bijection or a cursor.
+/// By what an operation refuses its input, a buffer lent to it, flags, a listing, a bijection or a cursor.
 #[derive(Clone, Copy, Debug, PartialEq, Eq)]
 #[repr(u8)]
 pub enum Refusal {
@@ -174,11 +190,13 @@ pub enum Refusal {
     ColumnsDisagree = 14,
     /// The cursor is at or past the end of the listing.
     CursorSpent = 15,
+    /// The flag of some window is not the truth: it is not 1 where the pattern matches, or not 0 where it does not.
+    FlagsFalse = 16,
 }
 
 impl Refusal {
     /// Every refusal, in the order of the numbers.
-    pub const ALL: [Refusal; 15] = [
+    pub const ALL: [Refusal; 16] = [
         Refusal::SizesMissing,
         Refusal::SideRange,
         Refusal::CellCount,
@@ -194,14 +212,15 @@ impl Refusal {
         Refusal::HasOtherPreimage,
         Refusal::ColumnsDisagree,
         Refusal::CursorSpent,
+        Refusal::FlagsFalse,
     ];
 
-    /// Document 01's number of the refusal.
+    /// Document 01's number of the refusal; those of document 02's requests join its table.
     pub fn number(self) -> u8 {
         self as u8
     }
 
-    /// The refusal that has this number: there is one for each from 1 to 15, and no other.
+    /// The refusal that has this number: there is one for each from 1 to 16, and no other.
     pub fn from_number(number: u8) -> Option<Refusal> {
         Refusal::ALL.into_iter().find(|why| why.number() == number)
     }
@@ -223,78 +242,6 @@ fn outcome(number: u8) -> Result<(), Refusal> {
     }
     // An operation gives no other number: that is proved of it.
     Err(Refusal::from_number(number).expect("a number of document 01"))
-}
-
-/// Writes the links of the strip of that `width` whose first column is `left`, row by row.
-///
-/// The link of a position is the distance back to the nearest earlier position of the strip with the same symbol, or 0.
-/// The first `rows * width` entries of `links` are written and the rest stay. A refusal changes none.
-///
-/// Refused by [`Refusal::SideRange`], [`Refusal::CellCount`], [`Refusal::TooLarge`], [`Refusal::CornerOutside`] and
-/// [`Refusal::LinksBufferShort`], in this order.
-pub fn strip_links(
-    text: &[u8],
-    rows: usize,
-    columns: usize,
-    width: usize,
-    left: usize,
-    links: &mut [u16],
-) -> Result<(), Refusal> {
-    // SAFETY: both slices are passed as they are, a pointer with its own length.
-    outcome(unsafe {
-        foreign::colourway_strip_links(
-            text.as_ptr(),
-            text.len(),
-            rows,
-            columns,
-            width,
-            left,
-            links.as_mut_ptr(),
-            links.len(),
-        )
-    })
-}
-
-/// Writes the number of different symbols in each window of `height` by `width` cells, row by row of corners (document
-/// 01's tallies).
-///
-/// One entry of `counts` a window is written and the rest stay. A refusal changes none.
-///
-/// Refused by [`Refusal::SideRange`], [`Refusal::CellCount`], [`Refusal::TooLarge`] and [`Refusal::WindowBufferShort`],
-/// in this order.
-pub fn distinct_counts(
-    text: &[u8],
-    rows: usize,
-    columns: usize,
-    height: usize,
-    width: usize,
-    counts: &mut [u16],
-) -> Result<(), Refusal> {
-    // SAFETY: both slices are passed as they are, a pointer with its own length.
-    outcome(unsafe {
-        foreign::colourway_distinct_counts(
-            text.as_ptr(),
-            text.len(),
-            rows,
-            columns,
-            height,
-            width,
-            counts.as_mut_ptr(),
-            counts.len(),
-        )
-    })
-}
-
-/// The symbol in cell (`i`, `j`) of the window at corner (`row`, `column`), or `None` where the cell lies past the
-/// text's end.
-///
-/// The text is read through its row width, without copying: a column beyond it leads into the next row.
-pub fn window_cell(text: &[u8], row_width: u8, row: u8, column: u8, i: u8, j: u8) -> Option<u8> {
-    // SAFETY: the slice is passed as it is, a pointer with its own length.
-    let number = unsafe {
-        foreign::colourway_window_cell(text.as_ptr(), text.len(), row_width, row, column, i, j)
-    };
-    u8::try_from(number).ok()
 }
 
 /// A set of symbols, held as 256 bits in four words: bit `k` of word `i` is 1 where symbol `64 * i + k` is in the set.

@@ -1,4 +1,4 @@
-//! The search with its listing (document 01, 'Search and listing').
+//! The search with its listing (document 01, 'Search and listing'), in one call. `count_list` has it in two.
 
 use crate::{foreign, outcome, Refusal};
 use std::fmt;
@@ -17,7 +17,7 @@ pub struct Buffers<'a> {
     pub listing: &'a mut [u8],
 }
 
-/// What an accepted search returns.
+/// What an accepted search returns, and either of its two halves, [`count`](crate::count) and [`list`](crate::list).
 #[derive(Clone, Copy, Debug, PartialEq, Eq)]
 pub struct Totals {
     /// How many windows the pattern matches.
@@ -28,13 +28,13 @@ pub struct Totals {
     pub length: usize,
 }
 
-/// Why a search gives no totals.
+/// Why a search, or a [`list`](crate::list), gives no totals.
 #[derive(Clone, Copy, Debug, PartialEq, Eq)]
 pub enum SearchRefusal {
     /// By the input, or a buffer other than the listing: nothing is changed.
     Refused(Refusal),
-    /// By [`Refusal::ListingBufferShort`]: flags, counts and links are as after an accepted search, and the listing
-    /// buffer is untouched.
+    /// By [`Refusal::ListingBufferShort`]: the listing buffer is untouched; a search leaves flags, counts and links as
+    /// where it is accepted.
     ListingBufferShort {
         /// How many bytes the listing has.
         needed: usize,
@@ -60,6 +60,30 @@ impl fmt::Display for SearchRefusal {
 
 impl std::error::Error for SearchRefusal {}
 
+/// The totals by name.
+pub(crate) fn named([found, refused, length]: [usize; 3]) -> Totals {
+    Totals {
+        found,
+        refused,
+        length,
+    }
+}
+
+/// What an operation that writes a listing answers, typed: the totals, or the refusal with what it returns.
+pub(crate) fn typed(
+    outcome: Result<(), Refusal>,
+    totals: [usize; 3],
+) -> Result<Totals, SearchRefusal> {
+    let totals = named(totals);
+    match outcome {
+        Ok(()) => Ok(totals),
+        Err(Refusal::ListingBufferShort) => Err(SearchRefusal::ListingBufferShort {
+            needed: totals.length,
+        }),
+        Err(why) => Err(SearchRefusal::Refused(why)),
+    }
+}
+
 /// Compares the pattern of `height` by `width` cells with every window of a text, and lists what
 /// [`one_window`](crate::one_window) answers for each, row by row of corners: a match with its pairs, or a mismatch
 /// with its two cells.
@@ -71,7 +95,8 @@ impl std::error::Error for SearchRefusal {}
 /// There are `(rows - height + 1) * (columns - width + 1)` windows. With `d` symbols in the pattern a match takes `3 +
 /// 3 * d` bytes of the listing, a mismatch 7 and the closing 5.
 ///
-/// How long a listing is, is known when all windows have been compared. A search that is lent no room for it tells:
+/// A search is [`count`](crate::count) followed by [`list`](crate::list): call these two where the room for the listing
+/// is to be found first. A search that is lent no room for it tells the length too:
 ///
 /// ```
 /// use colourway::{search, Buffers, SearchRefusal, Totals};
@@ -115,18 +140,7 @@ pub fn search(
         buffers,
         &mut totals,
     );
-    let [found, refused, length] = totals;
-    match outcome {
-        Ok(()) => Ok(Totals {
-            found,
-            refused,
-            length,
-        }),
-        Err(Refusal::ListingBufferShort) => {
-            Err(SearchRefusal::ListingBufferShort { needed: length })
-        }
-        Err(why) => Err(SearchRefusal::Refused(why)),
-    }
+    typed(outcome, totals)
 }
 
 /// [`search`] with its totals in what is lent to it: found, refused and the listing's length.

@@ -162,7 +162,7 @@ fn declared_in_c() -> Functions {
 #[test]
 fn three_declarations_agree() {
     let exported = exported();
-    assert!(exported.len() >= 15, "{} functions", exported.len());
+    assert!(exported.len() >= 17, "{} functions", exported.len());
     assert!(exported.keys().all(|name| name.starts_with("colourway_")));
     let [rust, c] = [declared_in_rust(), declared_in_c()];
     for (name, function) in &exported {
@@ -191,6 +191,8 @@ fn a_declaration_is_read() {
     for functions in [exported(), declared_in_rust(), declared_in_c()] {
         assert_eq!(functions["colourway_read"], expected);
         assert_eq!(functions["colourway_search"].parameters.len(), 17);
+        assert_eq!(functions["colourway_count"].parameters.len(), 15);
+        assert_eq!(functions["colourway_list"].parameters.len(), 13);
         assert_eq!(functions["colourway_symbols"].result, "()");
     }
 }

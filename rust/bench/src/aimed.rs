@@ -26,6 +26,7 @@ pub fn classes() -> Vec<Class> {
     ]);
     all.extend([two_blocks(), thin((16, 2), 10), thin((12, 3), 9), uneven()]);
     all.extend([single_windows(), behind_pairs(), two_rows(), many_pairs()]);
+    all.extend(told_by_counts());
     all
 }
 
@@ -61,6 +62,48 @@ fn random_below() -> impl Iterator<Item = Class> {
         let name = format!("stripes of {STRIPES} symbols, random cells from row {alike} on");
         class(name, Kind::Other, text, pattern, sides)
     })
+}
+
+/// The search refuses nearly all windows by their counts, which cost little where rows are alike, and only the listing
+/// walks through the strips. The list has no counts to ask: it walks twice, where no two cells that it keeps spoil the
+/// next window too.
+fn told_by_counts() -> [Class; 6] {
+    let lattice = |(down, along): Sides, sides: Sides| {
+        let text = filled((SIDE, SIDE), |i, j| {
+            usize::from(i % down == down / 2 && j % along == along / 2)
+        });
+        let name =
+            format!("constant, a cell in {down} by {along} different, with a constant pattern");
+        class(name, Kind::Other, text, filled(sides, |_, _| 0), sides)
+    };
+    let other = |name: &str, text: Vec<u8>, pattern: Vec<u8>, sides| {
+        class(String::from(name), Kind::Other, text, pattern, sides)
+    };
+    let fifth = filled((SIDE, SIDE), |i, j| if i % 5 == 4 { 255 } else { j });
+    let second = filled((SIDE, SIDE), |i, _| if i % 2 == 1 { 255 } else { i });
+    [
+        lattice((60, 60), (64, 64)),
+        lattice((2, 190), (2, 200)),
+        lattice((97, 1), (98, 1)),
+        other(
+            "columns constant, all different, every fifth row constant",
+            fifth,
+            filled((5, 216), |_, j| j),
+            (5, 216),
+        ),
+        other(
+            "rows constant, every second one alike",
+            second,
+            filled((4, 1), |i, _| i),
+            (4, 1),
+        ),
+        other(
+            "random, 8 symbols, all cells of the pattern different",
+            Random(5).cells(SIDE * SIDE, 8),
+            filled((16, 1), |i, _| i),
+            (16, 1),
+        ),
+    ]
 }
 
 /// Two windows of each strip agree with the pattern in its first two rows, and all others fail at once: links would

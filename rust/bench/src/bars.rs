@@ -19,6 +19,11 @@ pub const WALKED_SHARE: f64 = 0.25;
 /// What the counts may take of the plain program's counts, alone.
 pub const COUNTS: f64 = 1.1;
 
+/// What the halves of the search may take of the time of the search: the count, which lists nothing, and the list,
+/// which judges every flag that it is lent.
+pub const COUNT: f64 = 0.9;
+pub const LIST: f64 = 1.2;
+
 /// What the check of a listing may take of the time of the search that wrote it.
 pub const CHECK: f64 = 1.2;
 
@@ -74,6 +79,16 @@ pub fn search(class: &Class, walked: f64, times: &Times) -> Judged {
 /// The counts beside those of the plain program.
 pub fn counts(times: &Times) -> Judged {
     Judged::of(times.counts, times.plain_counts, Some(COUNTS))
+}
+
+/// The count, the search's first half, beside the search.
+pub fn count(times: &Times) -> Judged {
+    Judged::of(times.count, times.search, Some(COUNT))
+}
+
+/// The list, its second half, beside the search.
+pub fn list(times: &Times) -> Judged {
+    Judged::of(times.list, times.search, Some(LIST))
 }
 
 /// The check beside the search.

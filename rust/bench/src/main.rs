@@ -1,5 +1,5 @@
-//! The proved search and its counts beside those of a plain Rust program, and the proved check beside the search, in
-//! one run and on the same inputs. No time is asserted: what misses a bar is marked.
+//! The proved search and its counts beside those of a plain Rust program, and the proved count, list and check beside
+//! the search, in one run and on the same inputs. No time is asserted: what misses a bar is marked.
 //!
 //! `cargo run --release --offline -p bench`, after `rt staticlib exports` at the repository's top. With an argument
 //! only the classes are measured in whose names it stands: `cargo run --release --offline -p bench -- stripes`.
@@ -17,7 +17,7 @@ mod texts;
 
 use input::Class;
 use measure::{compare, measure, walk};
-use tables::{explain, head_search, print_check, print_counts, print_search, Line};
+use tables::{explain, head_search, print_check, print_counts, print_halves, print_search, Line};
 
 /// Compares the programs on a class, measures them, and judges the times.
 fn line(class: Class) -> Line {
@@ -30,6 +30,8 @@ fn line(class: Class) -> Line {
         walked: walk.share,
         search: bars::search(&class, walk.share, &times),
         counts: bars::counts(&times),
+        count: bars::count(&times),
+        list: bars::list(&times),
         check: bars::check(&times),
         name: class.name,
         times,
@@ -41,6 +43,8 @@ fn misses(line: &Line) -> Vec<(f64, String)> {
     let judged = [
         ("search / plain", line.search),
         ("counts / plain counts", line.counts),
+        ("count / search", line.count),
+        ("list / search", line.list),
         ("check / search", line.check),
     ];
     let missed = |(what, judged): (&str, bars::Judged)| {
@@ -74,6 +78,7 @@ fn main() {
     let part = std::env::args().nth(1).unwrap_or_default();
     let lines = search_table(&part);
     print_counts(&lines);
+    print_halves(&lines);
     print_check(&lines);
     let growths = if heights::NAME.contains(&part) {
         heights::print()

@@ -2,8 +2,24 @@
 
 use crate::input::Input;
 use crate::plain;
-use colourway::{distinct_counts, strip_links, Buffers, Checked, SearchRefusal, Totals};
+use colourway::{distinct_counts, strip_links};
+use colourway::{Buffers, Checked, CountBuffers, SearchRefusal, Totals};
 use std::time::{Duration, Instant};
+
+/// Calls a proved operation on a text and a pattern: these two with their sides, and then what else it takes.
+macro_rules! call {
+    ($operation:ident, $input:expr, $($rest:expr),*) => {
+        colourway::$operation(
+            &$input.text,
+            $input.rows,
+            $input.columns,
+            &$input.pattern,
+            $input.height,
+            $input.width,
+            $($rest),*
+        )
+    };
+}
 
 /// Each class is measured at least so many times and at least so long.
 pub const ROUNDS: u32 = 9;
@@ -41,15 +57,36 @@ impl Lent {
 
 /// The proved search.
 pub fn proved(input: &Input, lent: &mut Lent) -> Result<Totals, SearchRefusal> {
-    colourway::search(
-        &input.text,
-        input.rows,
-        input.columns,
-        &input.pattern,
-        input.height,
-        input.width,
-        lent.lend(),
-    )
+    call!(search, input, lent.lend())
+}
+
+/// The proved count, the search's first half.
+fn counted(input: &Input, lent: &mut Lent) -> Totals {
+    let buffers = CountBuffers {
+        links: &mut lent.links,
+        counts: &mut lent.counts,
+        flags: &mut lent.flags,
+    };
+    call!(count, input, buffers).expect("there is room for a count")
+}
+
+/// The proved list, its second half, on the flags that it is lent.
+fn listed(input: &Input, lent: &mut Lent) -> Result<Totals, SearchRefusal> {
+    call!(list, input, &lent.flags, &mut lent.listing)
+}
+
+/// Fails unless the count and then the list give what the search gave: the answer and every buffer.
+fn compare_halves(input: &Input, answer: Result<Totals, SearchRefusal>, after: &Lent) {
+    let mut in_two = Lent::of(input, after.listing.len());
+    let counted = counted(input, &mut in_two);
+    let listed = listed(input, &mut in_two);
+    assert_eq!(listed, answer, "the list, after the count");
+    assert!(in_two == *after, "the buffers of count and list differ");
+    match answer {
+        Ok(totals) => assert_eq!(counted, totals),
+        Err(SearchRefusal::ListingBufferShort { needed }) => assert_eq!(counted.length, needed),
+        Err(why) => panic!("the search is {why}"),
+    }
 }
 
 /// The proved counts.
@@ -67,16 +104,7 @@ fn proved_counts(input: &Input, counts: &mut [u16]) {
 
 /// The proved check of a listing, which it accepts.
 fn checked(input: &Input, listing: &[u8]) -> Checked {
-    colourway::check(
-        &input.text,
-        input.rows,
-        input.columns,
-        &input.pattern,
-        input.height,
-        input.width,
-        listing,
-    )
-    .expect("the listing is the search's")
+    call!(check, input, listing).expect("the listing is the search's")
 }
 
 /// Two sets of buffers after a proved search: with room for the listing, and with a byte too few.
@@ -86,8 +114,9 @@ pub struct Searched {
     pub short: Lent,
 }
 
-/// Fails unless the two programs agree on the input: the answer and every buffer, with room for the listing and with
-/// one byte too few, and the counts alone; and unless the check accepts the listing.
+/// Fails unless the two programs agree on the input, and the count and then the list agree with both: the answer and
+/// every buffer, with room for the listing and with one byte too few, and the counts alone; and unless the check
+/// accepts the listing.
 pub fn compare(input: &Input) -> Searched {
     let Err(SearchRefusal::ListingBufferShort { needed }) = proved(input, &mut Lent::of(input, 0))
     else {
@@ -99,6 +128,7 @@ pub fn compare(input: &Input) -> Searched {
         let answer = proved(input, &mut by_proof);
         assert_eq!(answer, plain::search(input, by_plain.lend()));
         assert!(by_proof == by_plain, "the buffers differ");
+        compare_halves(input, answer, &by_proof);
         (answer, by_proof)
     });
     assert_eq!(refused, Err(SearchRefusal::ListingBufferShort { needed }));
@@ -161,6 +191,10 @@ pub struct Times {
     pub links: Duration,
     /// A proved search that has no room for the last byte of its listing, and so writes none.
     pub unlisted: Duration,
+    /// The proved count, which fills all but the listing.
+    pub count: Duration,
+    /// The proved list on the flags that the proved search left.
+    pub list: Duration,
     /// The proved check of the listing that the proved search wrote.
     pub check: Duration,
     pub rounds: u32,
@@ -191,8 +225,9 @@ fn make_links(input: &Input, walk: &Walk, links: &mut [u16]) {
 /// Measures all that is compared in turn, round after round.
 pub fn measure(input: &Input, searched: Searched, walk: &Walk) -> Times {
     let Searched { full, short, .. } = searched;
-    let [mut by_plain, mut by_proof, mut unlisted, mut alone] =
-        [full.clone(), full.clone(), short, full.clone()];
+    let [mut by_plain, mut by_proof, mut alone, mut by_count, mut by_list] =
+        [(); 5].map(|()| full.clone());
+    let mut unlisted = short;
     let mut times = Times {
         plain: Duration::MAX,
         plain_counts: Duration::MAX,
@@ -200,6 +235,8 @@ pub fn measure(input: &Input, searched: Searched, walk: &Walk) -> Times {
         counts: Duration::MAX,
         links: Duration::MAX,
         unlisted: Duration::MAX,
+        count: Duration::MAX,
+        list: Duration::MAX,
         check: Duration::MAX,
         rounds: 0,
     };
@@ -217,6 +254,8 @@ pub fn measure(input: &Input, searched: Searched, walk: &Walk) -> Times {
             make_links(input, walk, &mut alone.links)
         });
         time(&mut times.unlisted, || proved(input, &mut unlisted));
+        time(&mut times.count, || counted(input, &mut by_count));
+        time(&mut times.list, || listed(input, &mut by_list));
         time(&mut times.check, || checked(input, &full.listing));
         times.rounds += 1;
     }

@@ -17,6 +17,8 @@ pub struct Line {
     pub times: Times,
     pub search: Judged,
     pub counts: Judged,
+    pub count: Judged,
+    pub list: Judged,
     pub check: Judged,
 }
 
@@ -37,8 +39,8 @@ pub fn explain() {
         "\
 The proved search and a plain Rust program on the same inputs, in turn, in one run: texts of 255 by 255 cells.
 Times are in milliseconds, the best of at least {ROUNDS} rounds and {LEAST:?} a class. Before that both ran on buffers
-of noise, and gave the same answer and the same buffers, also where the listing's buffer is one byte too short. Between
-rounds buffers are not cleared: neither program needs it.
+of noise, and gave the same answer and the same buffers, also where the listing's buffer is one byte too short; and so
+did the proved count followed by the proved list. Between rounds buffers are not cleared: neither program needs it.
 
 walked is the share of the pattern's cells that the plain program looks at in a window, on average.
 The proved search's phases:
@@ -121,6 +123,34 @@ pub fn print_counts(lines: &[Line]) {
         println!(
             "{:<NAME$} {plain:>9.3} {counts:>9.3} {ratio:>6.2}  {said}",
             line.name
+        );
+    }
+}
+
+/// The halves of the search, of all classes.
+pub fn print_halves(lines: &[Line]) {
+    println!(
+        "\nThe proved count, and the proved list on the search's flags, each beside the search, in the same rounds."
+    );
+    println!(
+        "Bars: at most {:.2} for count / search, at most {:.2} for list / search\n",
+        bars::COUNT,
+        bars::LIST
+    );
+    println!(
+        "{:<NAME$} {:>9} {:>9} {:>6}  {:<11} {:>9} {:>6}  bar",
+        "class and pattern", "search", "count", "ratio", "bar", "list", "ratio"
+    );
+    for line in lines {
+        let times = &line.times;
+        let [search, count, list] = [times.search, times.count, times.list].map(milliseconds);
+        println!(
+            "{:<NAME$} {search:>9.3} {count:>9.3} {:>6.2}  {:<11} {list:>9.3} {:>6.2}  {}",
+            line.name,
+            line.count.ratio,
+            line.count.said(),
+            line.list.ratio,
+            line.list.said(),
         );
     }
 }

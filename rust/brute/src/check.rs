@@ -2,7 +2,7 @@
 //! themselves.
 
 use crate::listing::first_record;
-use crate::{cells, first_refusal, product, some_side_is_bad, symbol_set};
+use crate::{cells, input_condition, symbol_set, Given};
 
 /// A refusal's number, and the place that 6 and 7 return beside it.
 type Refused = (u8, Option<usize>);
@@ -17,16 +17,8 @@ pub fn check(
     width: usize,
     listing: &[u8],
 ) -> Result<(usize, usize), Refused> {
-    let number = first_refusal(&[
-        (2, some_side_is_bad(&[rows, columns, height, width])),
-        (
-            3,
-            text.len() as u128 != product(rows, columns)
-                || pattern.len() as u128 != product(height, width),
-        ),
-        (4, height > rows || width > columns),
-    ]);
-    if number != 0 {
+    let (number, refused) = input_condition(Given::of(text, rows, columns, pattern, height, width));
+    if refused {
         return Err((number, None));
     }
 

@@ -1,7 +1,7 @@
 //! "One window" by brute force: each cell is compared with all before it.
 
 use crate::bijections::{columns_of, Columns};
-use crate::{cells, first_refusal, product, some_side_is_bad};
+use crate::{cells, first_refusal, input_condition, Given};
 use std::collections::BTreeSet;
 
 /// What is answered: the outcome's number; the kind of the clash with its earlier and its later cell, or three zeros;
@@ -20,26 +20,36 @@ pub fn one_window(
     row: usize,
     column: usize,
 ) -> Answer {
+    answer_at(
+        Given::of(text, rows, columns, pattern, height, width),
+        row,
+        column,
+    )
+}
+
+/// The same of what is given in one piece.
+pub(crate) fn answer_at(given: Given, row: usize, column: usize) -> Answer {
     let beyond = |at: usize, whole: usize, part: usize| at as i128 > whole as i128 - part as i128;
     let number = first_refusal(&[
-        (2, some_side_is_bad(&[rows, columns, height, width])),
-        (
-            3,
-            text.len() as u128 != product(rows, columns)
-                || pattern.len() as u128 != product(height, width),
-        ),
-        (4, height > rows || width > columns),
+        input_condition(given),
         (
             5,
-            beyond(row, rows, height) || beyond(column, columns, width),
+            beyond(row, given.rows, given.height) || beyond(column, given.columns, given.width),
         ),
     ]);
     let nothing = BTreeSet::new();
     if number != 0 {
         return (number, [0; 3], columns_of(&nothing));
     }
-    let window = cells(text, columns, row, column, height, width);
-    match pairs_or_clash(pattern, &window) {
+    let window = cells(
+        given.text,
+        given.columns,
+        row,
+        column,
+        given.height,
+        given.width,
+    );
+    match pairs_or_clash(given.pattern, &window) {
         Ok(pairs) => (0, [0; 3], columns_of(&pairs)),
         Err(found) => (0, found, columns_of(&nothing)),
     }

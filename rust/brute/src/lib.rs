@@ -1,12 +1,14 @@
 //! Document 01's operations by brute force.
 //!
-//! This is written from document 01's sentences and shares no code with what it is compared with. It is meant to be
-//! seen right at a glance, however slow it is. An operation on a buffer takes the buffer as it was, and answers the
-//! number of the refusal (0 where the input is accepted) with the whole buffer as it is afterwards.
+//! This is written from document 01's sentences, and document 02's where a request has landed, and shares no code with
+//! what it is compared with. It is meant to be seen right at a glance, however slow it is. An operation on a buffer
+//! takes the buffer as it was, and answers the number of the refusal (0 where the input is accepted) with the whole
+//! buffer as it is afterwards.
 
 mod bijections;
 mod check;
 mod compare;
+mod count_list;
 mod listing;
 mod program;
 mod search;
@@ -14,6 +16,7 @@ mod search;
 pub use bijections::{compose, invert, pair, Columns};
 pub use check::check;
 pub use compare::one_window;
+pub use count_list::{count, list};
 pub use listing::read;
 pub use program::program;
 pub use search::{search, Buffers};
@@ -32,6 +35,52 @@ fn first_refusal(conditions: &[(u8, bool)]) -> u8 {
 /// Condition 2: "a side is 0 or above 255".
 fn some_side_is_bad(sides: &[usize]) -> bool {
     sides.iter().any(|&side| side == 0 || side > 255)
+}
+
+/// A sheet and a motif with their sides: what the operations on both of them are given.
+#[derive(Clone, Copy)]
+pub struct Given<'a> {
+    pub text: &'a [u8],
+    pub rows: usize,
+    pub columns: usize,
+    pub pattern: &'a [u8],
+    pub height: usize,
+    pub width: usize,
+}
+
+impl<'a> Given<'a> {
+    pub fn of(
+        text: &'a [u8],
+        rows: usize,
+        columns: usize,
+        pattern: &'a [u8],
+        height: usize,
+        width: usize,
+    ) -> Given<'a> {
+        Given {
+            text,
+            rows,
+            columns,
+            pattern,
+            height,
+            width,
+        }
+    }
+}
+
+/// The first of the conditions 2, 3 and 4 that holds of a sheet and a motif, with whether one does.
+fn input_condition(given: Given) -> (u8, bool) {
+    let [rows, columns, height, width] = [given.rows, given.columns, given.height, given.width];
+    let number = first_refusal(&[
+        (2, some_side_is_bad(&[rows, columns, height, width])),
+        (
+            3,
+            given.text.len() as u128 != product(rows, columns)
+                || given.pattern.len() as u128 != product(height, width),
+        ),
+        (4, height > rows || width > columns),
+    ]);
+    (number, number != 0)
 }
 
 /// A product, at a width at which no two sizes overflow.

@@ -1,8 +1,9 @@
 //! "Search and listing" by brute force: the one-window question is asked of every window, and its answers are written
 //! down.
 
-use crate::{distinct_counts, one_window, symbol_set};
-use crate::{first_refusal, product, some_side_is_bad, windows, with_first};
+use crate::compare::answer_at;
+use crate::{distinct_counts, symbol_set};
+use crate::{first_refusal, input_condition, product, windows, with_first, Given};
 
 /// "The search is lent links, tallies, marks and listing."
 #[derive(Clone, Debug, PartialEq, Eq)]
@@ -13,46 +14,27 @@ pub struct Buffers {
     pub listing: Vec<u8>,
 }
 
-/// The outcome's number; what is returned beside it, which is "a, b and that length" of an accepted search, "the length
-/// needed" beside 11 and nothing beside another refusal; and the buffers afterwards.
-pub fn search(
-    text: &[u8],
-    rows: usize,
-    columns: usize,
-    pattern: &[u8],
-    height: usize,
-    width: usize,
-    lent: &Buffers,
-) -> (u8, Vec<usize>, Buffers) {
-    let windows = windows(rows, columns, height, width);
-    let number = first_refusal(&[
-        (2, some_side_is_bad(&[rows, columns, height, width])),
-        (
-            3,
-            text.len() as u128 != product(rows, columns)
-                || pattern.len() as u128 != product(height, width),
-        ),
-        (4, height > rows || width > columns),
-        (9, (lent.links.len() as u128) < product(rows, width)),
-        (
-            10,
-            (lent.flags.len() as i128) < windows || (lent.counts.len() as i128) < windows,
-        ),
-    ]);
-    if number != 0 {
-        return (number, Vec::new(), lent.clone());
-    }
+/// What the search finds and writes.
+pub(crate) struct Written {
+    /// "Marks then hold 1 for found and 0 for refused, one byte a window."
+    pub flags: Vec<u8>,
+    pub found: usize,
+    pub refused: usize,
+    pub listing: Vec<u8>,
+}
 
+/// "The search lists this answer for each window": of a sheet and a motif that are not refused by 2, 3 or 4.
+pub(crate) fn written(given: Given) -> Written {
+    let width = given.width;
     let mut flags = Vec::new();
     let mut listing = Vec::new();
-    for row in 0..=rows - height {
-        for column in 0..=columns - width {
-            let (_, [kind, earlier, later], [forward, _]) =
-                one_window(text, rows, columns, pattern, height, width, row, column);
+    for row in 0..=given.rows - given.height {
+        for column in 0..=given.columns - width {
+            let (_, [kind, earlier, later], [forward, _]) = answer_at(given, row, column);
             if kind == 0 {
                 flags.push(1);
                 listing.extend([1, row as u8, column as u8]);
-                for a in symbol_set(pattern) {
+                for a in symbol_set(given.pattern) {
                     listing.extend([2, a, forward[usize::from(a)] as u8]);
                 }
             } else {
@@ -70,27 +52,72 @@ pub fn search(
     for total in [found, refused] {
         listing.extend([(total / 256) as u8, (total % 256) as u8]);
     }
+    Written {
+        flags,
+        found,
+        refused,
+        listing,
+    }
+}
 
-    let mut after = Buffers {
+/// The number of the refusal before any window is looked at, or 0: 2, 3, 4, 9, 10.
+pub(crate) fn lent_refusal(given: Given, lent: &Buffers) -> u8 {
+    let windows = windows(given.rows, given.columns, given.height, given.width);
+    first_refusal(&[
+        input_condition(given),
+        (
+            9,
+            (lent.links.len() as u128) < product(given.rows, given.width),
+        ),
+        (
+            10,
+            (lent.flags.len() as i128) < windows || (lent.counts.len() as i128) < windows,
+        ),
+    ])
+}
+
+/// The buffers with all filled but the listing, which stays.
+pub(crate) fn filled(given: Given, flags: Vec<u8>, lent: &Buffers) -> Buffers {
+    let [rows, columns, height, width] = [given.rows, given.columns, given.height, given.width];
+    Buffers {
         // "The first R × c links are 0."
         links: with_first(vec![0; rows * width], &lent.links),
         // "Tallies are as the tally operation leaves them."
-        counts: distinct_counts(text, rows, columns, height, width, &lent.counts).1,
-        // "Marks then hold 1 for found and 0 for refused, one byte a window."
+        counts: distinct_counts(given.text, rows, columns, height, width, &lent.counts).1,
         flags: with_first(flags, &lent.flags),
-        // "11 .. leaves the listing buffer untouched."
         listing: lent.listing.clone(),
-    };
-    let length = listing.len();
+    }
+}
+
+/// The outcome's number; what is returned beside it, which is "a, b and that length" of an accepted search, "the length
+/// needed" beside 11 and nothing beside another refusal; and the buffers afterwards.
+pub fn search(
+    text: &[u8],
+    rows: usize,
+    columns: usize,
+    pattern: &[u8],
+    height: usize,
+    width: usize,
+    lent: &Buffers,
+) -> (u8, Vec<usize>, Buffers) {
+    let given = Given::of(text, rows, columns, pattern, height, width);
+    let number = lent_refusal(given, lent);
+    if number != 0 {
+        return (number, Vec::new(), lent.clone());
+    }
+    let written = written(given);
+    let length = written.listing.len();
+    // "11 has marks, tallies and links as after an accepted search, leaves the listing buffer untouched."
+    let mut after = filled(given, written.flags, lent);
     if lent.listing.len() < length {
         return (11, vec![length], after);
     }
-    after.listing = with_first(listing, &lent.listing);
-    (0, vec![found, refused, length], after)
+    after.listing = with_first(written.listing, &lent.listing);
+    (0, vec![written.found, written.refused, length], after)
 }
 
 #[cfg(test)]
-mod tests {
+pub(crate) mod tests {
     use super::*;
 
     /// The first draft's text (sheet), 2 by 3, and its pattern (motif), 2 by 2.
@@ -98,7 +125,7 @@ mod tests {
     const PATTERN: [u8; 4] = [1, 1, 2, 1];
 
     /// Buffers of these lengths that hold 9s.
-    fn nines(links: usize, counts: usize, flags: usize, listing: usize) -> Buffers {
+    pub fn nines(links: usize, counts: usize, flags: usize, listing: usize) -> Buffers {
         Buffers {
             links: vec![9; links],
             counts: vec![9; counts],

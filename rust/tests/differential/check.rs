@@ -128,39 +128,14 @@ type Answer = ((u8, [usize; 2]), Result<Checked, CheckRefusal>);
 fn proved(case: &Input) -> Answer {
     let given = &case.given;
     let mut totals = case.totals;
-    let outcome = check_into(
-        &given.text,
-        given.rows,
-        given.columns,
-        &given.pattern,
-        given.height,
-        given.width,
-        &case.listing,
-        &mut totals,
-    );
-    let typed = check(
-        &given.text,
-        given.rows,
-        given.columns,
-        &given.pattern,
-        given.height,
-        given.width,
-        &case.listing,
-    );
+    let outcome = call!(check_into, given, &case.listing, &mut totals);
+    let typed = call!(check, given, &case.listing);
     ((number(outcome), totals), typed)
 }
 
 fn brute(case: &Input) -> Answer {
     let given = &case.given;
-    let answer = brute::check(
-        &given.text,
-        given.rows,
-        given.columns,
-        &given.pattern,
-        given.height,
-        given.width,
-        &case.listing,
-    );
+    let answer = call!(brute::check, given, &case.listing);
     let [_, second] = case.totals;
     match answer {
         Ok((found, refused)) => ((0, [found, refused]), Ok(Checked { found, refused })),

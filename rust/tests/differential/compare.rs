@@ -122,28 +122,15 @@ fn proved(case: &Input) -> Answer {
     let [forward, backward] = case.bijection;
     let mut bijection = Bijection::from_columns(forward, backward);
     let mut mismatch = case.mismatch;
-    let outcome = one_window_into(
-        &case.text,
-        case.rows,
-        case.columns,
-        &case.pattern,
-        case.height,
-        case.width,
+    let outcome = call!(
+        one_window_into,
+        case,
         case.row,
         case.column,
         &mut bijection,
-        &mut mismatch,
+        &mut mismatch
     );
-    let typed = one_window(
-        &case.text,
-        case.rows,
-        case.columns,
-        &case.pattern,
-        case.height,
-        case.width,
-        case.row,
-        case.column,
-    );
+    let typed = call!(one_window, case, case.row, case.column);
     let columns = [*bijection.forward(), *bijection.backward()];
     (
         (number(outcome), mismatch, columns),
@@ -152,16 +139,7 @@ fn proved(case: &Input) -> Answer {
 }
 
 fn brute(case: &Input) -> Answer {
-    let answer = brute::one_window(
-        &case.text,
-        case.rows,
-        case.columns,
-        &case.pattern,
-        case.height,
-        case.width,
-        case.row,
-        case.column,
-    );
+    let answer = call!(brute::one_window, case, case.row, case.column);
     let typed = match answer {
         (0, [0, _, _], [forward, backward]) => Ok(WindowAnswer::Match(Bijection::from_columns(
             forward, backward,

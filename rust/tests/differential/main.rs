@@ -1,16 +1,37 @@
 //! The proved operations and the brute force on the same random inputs: the answer and every cell of the buffer are
 //! compared.
 
+/// Calls an operation on a text and a pattern: these two with their sides, and then what else it takes.
+macro_rules! call {
+    ($operation:path, $given:expr, $($rest:expr),*) => {{
+        let given = $given;
+        $operation(
+            &given.text,
+            given.rows,
+            given.columns,
+            &given.pattern,
+            given.height,
+            given.width,
+            $($rest),*
+        )
+    }};
+}
+
 mod bijections;
 mod check;
 mod compare;
+mod count_then_list;
+mod counting;
 mod counts;
 mod damage;
+mod lent;
 mod links;
+mod listing;
 mod program;
 mod random;
 mod reader;
 mod search;
+mod single_flags;
 mod symbols;
 mod texts;
 mod windows;

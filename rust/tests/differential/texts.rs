@@ -1,7 +1,7 @@
 //! Texts with patterns, made in several ways, and their listings by brute force.
 
 use crate::random::Random;
-use brute::Buffers;
+use brute::{Buffers, Given};
 
 /// A text and a pattern with their sides.
 #[derive(Debug)]
@@ -204,17 +204,14 @@ impl TextAndPattern {
             .collect()
     }
 
+    /// As the brute force takes it for a count and a list.
+    pub fn given(&self) -> Given<'_> {
+        call!(Given::of, self,)
+    }
+
     /// What a search by brute force answers if these buffers are lent.
     pub fn search(&self, lent: &Buffers) -> (u8, Vec<usize>, Buffers) {
-        brute::search(
-            &self.text,
-            self.rows,
-            self.columns,
-            &self.pattern,
-            self.height,
-            self.width,
-            lent,
-        )
+        call!(brute::search, self, lent)
     }
 
     /// Buffers with room for everything but the listing, which has this length.
@@ -230,6 +227,11 @@ impl TextAndPattern {
     /// The length of the listing, which the brute force tells where there is no room for it.
     pub fn listing_length(&self) -> usize {
         self.search(&self.room(0)).1[0]
+    }
+
+    /// The flags of all windows, as they are in truth.
+    pub fn flags(&self) -> Vec<u8> {
+        self.search(&self.room(0)).2.flags
     }
 
     /// The listing, of a pattern that fits into the text.

@@ -1,6 +1,8 @@
-//! Document 01's drafts and misweaves of the search and the reader, run on the proved code. Every expected value is
-//! typed from document 01 or found by hand; none comes from the brute force.
+//! Document 01's drafts and misweaves of the search, of its two halves and of the reader, run on the proved code. Every
+//! expected value is typed from document 01 or found by hand; none comes from the brute force.
 
+mod counting;
+mod listing;
 mod reading;
 
 use colourway::{records, search, search_into, Buffers, Refusal, SearchRefusal, Totals};
@@ -13,6 +15,13 @@ const PATTERN: [u8; 4] = [1, 1, 2, 1];
 
 /// The first draft's output in full.
 const LINES: [&str; 5] = ["1 0 0", "2 1 7", "2 2 3", "3 0 1 0 0 0 1", "5 0 1 0 1"];
+
+/// What an accepted search of the first draft returns.
+const TOTALS: Totals = Totals {
+    found: 1,
+    refused: 1,
+    length: 21,
+};
 
 /// The first draft's listing: the bytes of that output.
 const LISTING: [u8; 21] = [
@@ -77,19 +86,19 @@ fn one_row(text: &[u8], pattern: &[u8]) -> Vec<String> {
     listed((text, 1, text.len()), (pattern, 1, pattern.len())).1
 }
 
+/// Fails unless links, counts and flags are the first draft's, with noise behind them.
+fn assert_first_draft(lent: &Lent) {
+    assert_eq!(lent.links, [0, 0, 0, 0, WIDE_NOISE, WIDE_NOISE]);
+    assert_eq!(lent.counts, [2, 2, WIDE_NOISE]);
+    assert_eq!(lent.flags, [1, 0, NOISE]);
+}
+
 #[test]
 fn the_first_draft() {
     let mut lent = Lent::of(6, 3, 3, 23);
     let totals = search(&TEXT, 2, 3, &PATTERN, 2, 2, lent.lend());
-    let expected = Totals {
-        found: 1,
-        refused: 1,
-        length: 21,
-    };
-    assert_eq!(totals, Ok(expected));
-    assert_eq!(lent.links, [0, 0, 0, 0, WIDE_NOISE, WIDE_NOISE]);
-    assert_eq!(lent.counts, [2, 2, WIDE_NOISE]);
-    assert_eq!(lent.flags, [1, 0, NOISE]);
+    assert_eq!(totals, Ok(TOTALS));
+    assert_first_draft(&lent);
     assert_eq!(lent.listing[..21], LISTING);
     assert_eq!(lent.listing[21..], [NOISE, NOISE]);
     assert_eq!(lines(&lent.listing[..21]), LINES);
@@ -159,25 +168,29 @@ fn sides_of_255_are_accepted() {
     assert_eq!(lines[2 * 254..], ["1 0 254", "2 9 5", "5 0 255 0 0"]);
 }
 
-/// The sides of a text and a pattern that are right but for one: 0 and 256 are refused by 2, whichever side has them.
-/// Text and pattern have as many cells as the bad sides ask for, and the buffers room, so that nothing else is wrong.
+/// The sides of a text and a pattern that are right but for one, which is 0 or 256.
+fn bad_sides() -> impl Iterator<Item = [usize; 4]> {
+    let bad_at = |place: usize| {
+        [0, 256].map(|bad| std::array::from_fn(|at| if at == place { bad } else { 1 }))
+    };
+    (0..4).flat_map(bad_at)
+}
+
+/// 0 and 256 are refused by 2, whichever side has them. Text and pattern have as many cells as the bad sides ask for,
+/// and the buffers room, so that nothing else is wrong.
 #[test]
 fn sides_of_0_and_256_are_refused() {
-    for bad in [0, 256] {
-        for place in 0..4 {
-            let mut sides = [1; 4];
-            sides[place] = bad;
-            let [rows, columns, height, width] = sides;
-            let text = vec![5; rows * columns];
-            let pattern = vec![5; height * width];
-            let mut lent = Lent::of(256, 256, 256, 4096);
-            let before = lent.clone();
-            assert_eq!(
-                search(&text, rows, columns, &pattern, height, width, lent.lend()),
-                Err(SearchRefusal::Refused(Refusal::SideRange))
-            );
-            assert_eq!(lent, before);
-        }
+    assert_eq!(bad_sides().count(), 8);
+    for [rows, columns, height, width] in bad_sides() {
+        let text = vec![5; rows * columns];
+        let pattern = vec![5; height * width];
+        let mut lent = Lent::of(256, 256, 256, 4096);
+        let before = lent.clone();
+        assert_eq!(
+            search(&text, rows, columns, &pattern, height, width, lent.lend()),
+            Err(SearchRefusal::Refused(Refusal::SideRange))
+        );
+        assert_eq!(lent, before);
     }
 }
 
