@@ -106,9 +106,9 @@
 //! | [`strip_links`] | 1 KiB |
 //! | all others | 256 bytes |
 //!
-//! The first three take about that much whatever the size of their text, [`list`] also where it refuses by 16 or 11. A
-//! wrapper adds its own locals, of which a [`Bijection`], 1 KiB, is the largest. The figures are measured and not proved;
-//! `include/colourway.h` says how. The test `stack` runs every operation in a thread of 64 KiB.
+//! The first three take about that much whatever the size of their text, [`list`] also where it refuses by 16 or 11.
+//! A wrapper adds its own locals, of which a [`Bijection`], 1 KiB, is the largest. The figures are measured and not
+//! proved; `include/colourway.h` says how. The test `stack` runs every operation in a thread of 64 KiB.
 //!
 //! # To build and test
 //!

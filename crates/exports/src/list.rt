@@ -10,7 +10,8 @@ use returned::searching::searched_number;
 use returned::searching::searched_totals;
 
 // Writes the search's listing from flags that are held against the truth first (document 02, R-1). Found, refused and
-// the length go to totals; refused by 11, the length needed goes to the last of them. Any other refusal changes nothing.
+// the length go to totals; refused by 11, the length needed goes to the last of them. Any other refusal changes
+// nothing.
 #[no_mangle]
 pub extern "C" fn colourway_list(
     text: &[u8],

@@ -31,7 +31,8 @@ use Rattle.searched.specs.declared.answer.Searched.the-variants.{Listed, Refuse
 
 -- What the inner functions' contracts cite.
 
--- flags that were judged, and totals: where nothing is refused the flags are those of all windows, and the totals theirs
+-- flags that were judged, and totals: where nothing is refused the flags are those of all windows, and the totals are
+-- theirs
 pub record Trusted (text pattern : List ℕ) (s : Shape) (judged : Outcome) (flags : List ℕ) (t : Totals) : Type 0 where
   pub flagged : judged ≡ Accepted → Flagged text pattern s flags
   pub totalled : judged ≡ Accepted → Totalled text pattern s (t .found) (t .refused) (t .length)

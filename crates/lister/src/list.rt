@@ -31,9 +31,9 @@ use totals::totals::totals_of;
 use truth::strips::flags_true;
 use writer::writing::write_listing;
 
-// What List does once the flags are judged, and what the search ends with: where nothing was refused before, 11, or the
-// listing. First places are copied, as in `count_flagged`. The tables of own ends are of no use to anyone afterwards, and
-// nothing is said of them.
+// What List does once the flags are judged, and what the search ends with: where nothing was refused before, 11, or
+// the listing. First places are copied, as in `count_flagged`. The tables of own ends are of no use to anyone
+// afterwards, and nothing is said of them.
 pub fn list_flagged(
     text: &[u8],
     pattern: &[u8],
@@ -149,9 +149,9 @@ fn list_posed(text: &[u8], pattern: &[u8], s: Shape, flags: &[u8], listing: &mut
     )
 }
 
-// Writes the listing of a search from flags. Refused by 2, 3, 4, by 10 where the flags are fewer than the windows, by 16
-// where they are not the truth, and by 11. No links and no counts are lent: the flags are judged strip by strip, from text
-// and pattern alone.
+// Writes the listing of a search from flags. Refused by 2, 3, 4, by 10 where the flags are fewer than the windows, by
+// 16 where they are not the truth, and by 11. No links and no counts are lent: the flags are judged strip by strip,
+// from text and pattern alone.
 pub fn list_windows(
     text: &[u8],
     rows: usize,

@@ -1,6 +1,7 @@
--- Demand 3 from what the exported search, List and check ensure: where the number is 0, it holds of the listing and of
--- the counts in the totals; its sentence on the one-window answer takes besides what the one-window question ensures. Why
--- it holds: no refusal has the number 0, so that the call was accepted, and then the totals are its values.
+-- Demand 3 from what the exported search, List and check ensure: where the number is 0, it holds of the listing and
+-- of the counts in the totals; its sentence on the one-window answer takes besides what the one-window question
+-- ensures. Why it holds: no refusal has the number 0, so that the call was accepted, and then the totals are its
+-- values.
 -- Assumes nothing.
 use mathlib.Core.Path.{_≡_, sym, _∙_, ap}
 use mathlib.Core.List.{List, [], _∷_}

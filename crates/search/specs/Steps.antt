@@ -1,5 +1,5 @@
--- The search where nothing but 11 is left to ask is its two steps: what the first leaves in links, counts and flags, and
--- what the second says and leaves in the listing.
+-- The search where nothing but 11 is left to ask is its two steps: what the first leaves in links, counts and flags,
+-- and what the second says and leaves in the listing.
 -- Assumes nothing.
 use mathlib.Core.Path.{_≡_, ap}
 use mathlib.Core.List.{List}

@@ -28,7 +28,8 @@ use sweep::steps::compared;
 use sweep::steps::next_end;
 use sweep::windows::ready_ends;
 
-// Whether a strip's flags are the truth, and the two cells that are kept for the next strip: which, is a matter of time.
+// Whether a strip's flags are the truth, and the two cells that are kept for the next strip: which, is a matter of
+// time.
 pub struct StripTruth {
     pub truth: bool,
     pub spoiler: Spoiler,
@@ -45,8 +46,8 @@ fn flag_agrees(end: usize, n: usize, flag: u8) -> bool
 }
 
 // True only of a window whose flag is 0 and that does not match: two cells that spoiled an earlier one, or one of the
-// first four pairs, tell it. Where it is false the window is compared, and that decides; so is every window whose flag is
-// not 0.
+// first four pairs, tell it. Where it is false the window is compared, and that decides; so is every window whose
+// flag is not 0.
 fn known_refused(
     text: &[u8],
     pattern: &[u8],
@@ -72,8 +73,8 @@ fn known_refused(
     !pairs_alike(text, top * s.columns + left, earlier, later, 0)
 }
 
-// The first end of the window at row top. Here stands what `window_end` of crates/sweep does for the listing: called from
-// one place each, both become part of their loops, and a window that fails at once costs no call.
+// The first end of the window at row top. Here stands what `window_end` of crates/sweep does for the listing: called
+// from one place each, both become part of their loops, and a window that fails at once costs no call.
 fn judged_end(
     text: &[u8],
     pattern: &[u8],

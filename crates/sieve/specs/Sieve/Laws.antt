@@ -1,5 +1,6 @@
--- Laws of the tests: the cells that are looked at lie in the text, and a pair that is not alike in a window, or two cells
--- alike on one side only, say that a mismatch ends in it, since where none ends cells are alike on both sides or on none.
+-- Laws of the tests: the cells that are looked at lie in the text, and a pair that is not alike in a window, or two
+-- cells alike on one side only, say that a mismatch ends in it, since where none ends cells are alike on both sides
+-- or on none.
 -- Assumes nothing.
 use mathlib.Core.Path.{_≡_, refl, sym, _∙_, ap}
 use mathlib.Core.Bool.{Bool, true, false}
