@@ -11,7 +11,9 @@
  * row by row. A pattern (motif) is height by width symbols, laid out likewise. A window is the height by width part of
  * a text at a corner (row, column); rows and columns count from 0. A bijection (renaming) pairs pattern symbols with
  * text symbols, one to one. A mismatch (clash) is two cells that are alike on one side only, in the pattern or in the
- * window. The listing has every window once, found or refused.
+ * window. The listing has every window once, found or refused. At a scale k (document 02's coarse cloth) the pattern is
+ * enlarged: each of its cells is drawn as k by k cells. The enlarged pattern has k x height by k x width cells, and its
+ * cell (i, j) is the pattern's cell (i / k, j / k), rounded down. It is stored nowhere.
  *
  * Nothing is asked of the values: an input that makes no sense is refused by its number. Of pointers C asks what it
  * always does: one that stands with a length points to as many entries, one that is declared [N] to N of them; none is
@@ -27,6 +29,8 @@
  *     colourway_search                                        18 KiB
  *     colourway_count                                         15 KiB
  *     colourway_list                                          22 KiB
+ *     colourway_search_scaled                                 19 KiB
+ *     colourway_search_scales                                 25 KiB
  *     colourway_check                                         15 KiB
  *     colourway_one_window                                     7 KiB
  *     colourway_bijection_compose                              6 KiB
@@ -80,6 +84,14 @@
  *             return 1;
  *         why = colourway_list(text, 6, 2, 3, pattern, 4, 2, 2,
  *             flags, 2, listing, totals[2], totals);
+ *
+ * A pattern of 1 by 2 cells, 1 2, at scale 2 is 1 1 2 2 / 1 1 2 2. It matches the left one of the two windows of this
+ * text, and again one found, one refused and 21 bytes are printed:
+ *
+ *         const uint8_t text[10] = {7, 7, 3, 3, 3, 7, 7, 3, 3, 3}, pattern[2] = {1, 2};
+ *         uint16_t links[8], counts[2];
+ *         uint8_t why = colourway_search_scaled(text, 10, 2, 5, pattern, 2, 1, 2, 2,
+ *             links, 8, counts, 2, flags, 2, listing, 64, totals);
  */
 #ifndef COLOURWAY_H
 #define COLOURWAY_H
@@ -92,8 +104,8 @@ extern "C" {
 #endif
 
 /*
- * Document 01's refusals by number. Each is given when its condition holds and no earlier one in the order of its
- * function does.
+ * The refusals by number: document 01's, and those that document 02's requests add. Each is given when its condition
+ * holds and no earlier one in the order of its function does.
  */
 enum colourway_refusal {
     /* Nothing is refused. */
@@ -104,7 +116,7 @@ enum colourway_refusal {
     COLOURWAY_SIDE_RANGE = 2,
     /* The cells given are not rows x columns in number. */
     COLOURWAY_CELL_COUNT = 3,
-    /* The pattern, window or strip is taller or wider than the text. */
+    /* The pattern, window or strip is taller or wider than the text. Never given at a scale: there it is 17. */
     COLOURWAY_TOO_LARGE = 4,
     /* The corner, or the strip's column, is beyond the last at which the window or strip fits. */
     COLOURWAY_CORNER_OUTSIDE = 5,
@@ -115,11 +127,11 @@ enum colourway_refusal {
     COLOURWAY_LISTING_FALSE = 7,
     /* The program alone: text or pattern has more than 16,384 cells. */
     COLOURWAY_TOO_MANY_CELLS = 8,
-    /* The links buffer is shorter than rows x width. */
+    /* The links buffer is shorter than rows x width; at a scale the width is the enlarged pattern's. */
     COLOURWAY_LINKS_BUFFER_SHORT = 9,
     /* The flags (marks) or the counts (tallies) buffer is shorter than the number of windows. */
     COLOURWAY_WINDOW_BUFFER_SHORT = 10,
-    /* The listing buffer is shorter than the listing. */
+    /* The listing buffer is shorter than the listing; at every scale, than all listings together. */
     COLOURWAY_LISTING_BUFFER_SHORT = 11,
     /* The pattern symbol already has another image (mate). */
     COLOURWAY_HAS_OTHER_IMAGE = 12,
@@ -130,7 +142,9 @@ enum colourway_refusal {
     /* The cursor is at or past the end of the listing. */
     COLOURWAY_CURSOR_SPENT = 15,
     /* The flag (mark) of some window is not the truth: not 1 where the pattern matches, or not 0 where it does not. */
-    COLOURWAY_FLAGS_FALSE = 16
+    COLOURWAY_FLAGS_FALSE = 16,
+    /* The scale is 0, or the enlarged pattern is taller or wider than the text; at every scale: no scale fits. */
+    COLOURWAY_SCALE_UNFIT = 17
 };
 
 /*
@@ -287,6 +301,62 @@ uint8_t colourway_list(
     const uint8_t *pattern, size_t pattern_length,
     size_t height, size_t width,
     const uint8_t *flags, size_t flags_length,
+    uint8_t *listing, size_t listing_length,
+    size_t totals[3]);
+
+/*
+ * The search at a scale: compares the enlarged pattern with every window of its size, and lists the answers, row by row
+ * of corners. Number, totals and every buffer are those of colourway_search for a text and a stored pattern of scale x
+ * height by scale x width cells; but no enlarged pattern is stored, not even a row of it. A mismatch names its cells by
+ * row and column in the enlarged pattern. Pairs are the pattern's own symbols, and d in the listing's length is their
+ * number. At scale 1 it is the search, but for 17 in place of 4.
+ *
+ * Lent are links, at least rows x (scale x width) entries, in which it leaves zeros; counts and flags (marks), at least
+ * an entry a window, of which there are (rows - scale x height + 1) x (columns - scale x width + 1); and the listing.
+ * What lies beyond stays.
+ *
+ * Refused by 2, 3, 17, 9, 10, 11, in this order. 2 and 3 are of the pattern as it is given; 17 where the scale is 0 or
+ * the enlarged pattern is taller or wider than the text, however large the scale; 4 is never given. 11 writes the
+ * length needed to totals[2] and leaves totals[0] and totals[1]; links, counts and flags are as after an accepted call,
+ * and the listing buffer is untouched. The others leave everything.
+ */
+uint8_t colourway_search_scaled(
+    const uint8_t *text, size_t text_length,
+    size_t rows, size_t columns,
+    const uint8_t *pattern, size_t pattern_length,
+    size_t height, size_t width,
+    size_t scale,
+    uint16_t *links, size_t links_length,
+    uint16_t *counts, size_t counts_length,
+    uint8_t *flags, size_t flags_length,
+    uint8_t *listing, size_t listing_length,
+    size_t totals[3]);
+
+/*
+ * The search at every scale that fits, from 1 to K, the lesser of rows / height and columns / width, rounded down. The
+ * listings of colourway_search_scaled stand one after the other, that of scale 1 first, each with its own closing.
+ * Totals are the sums of found, refused and length. They may be above 65,535, while a closing counts the windows of its
+ * own scale, in two bytes each as ever.
+ *
+ * Lent are links, at least rows x (K x width) entries; counts and flags (marks), at least as many entries as there are
+ * windows at scale 1; and the listing. Each scale writes counts and flags afresh from their start, and a larger one has
+ * fewer windows. So afterwards the entries of scale K come first, behind them what scale K - 1 left, and so on: entry p
+ * is that of window p at the largest scale that has more than p windows. Links are 0 as far as rows x (K x width). What
+ * lies beyond stays.
+ *
+ * Refused by 2, 3, 17, 9, 10, 11, in this order: 17 where the pattern itself is taller or wider than the text; 9 at
+ * scale K; 10 at scale 1; 11 where the listing buffer is shorter than all listings together. 11 writes that sum of
+ * lengths to totals[2] and leaves totals[0] and totals[1]; links, counts and flags are as after an accepted call, and
+ * the listing buffer is untouched. The others leave everything.
+ */
+uint8_t colourway_search_scales(
+    const uint8_t *text, size_t text_length,
+    size_t rows, size_t columns,
+    const uint8_t *pattern, size_t pattern_length,
+    size_t height, size_t width,
+    uint16_t *links, size_t links_length,
+    uint16_t *counts, size_t counts_length,
+    uint8_t *flags, size_t flags_length,
     uint8_t *listing, size_t listing_length,
     size_t totals[3]);
 

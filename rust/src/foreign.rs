@@ -131,6 +131,47 @@ extern "C" {
         totals: &mut [usize; 3],
     ) -> u8;
 
+    pub fn colourway_search_scaled(
+        text: *const u8,
+        text_length: usize,
+        rows: usize,
+        columns: usize,
+        pattern: *const u8,
+        pattern_length: usize,
+        height: usize,
+        width: usize,
+        scale: usize,
+        links: *mut u16,
+        links_length: usize,
+        counts: *mut u16,
+        counts_length: usize,
+        flags: *mut u8,
+        flags_length: usize,
+        listing: *mut u8,
+        listing_length: usize,
+        totals: &mut [usize; 3],
+    ) -> u8;
+
+    pub fn colourway_search_scales(
+        text: *const u8,
+        text_length: usize,
+        rows: usize,
+        columns: usize,
+        pattern: *const u8,
+        pattern_length: usize,
+        height: usize,
+        width: usize,
+        links: *mut u16,
+        links_length: usize,
+        counts: *mut u16,
+        counts_length: usize,
+        flags: *mut u8,
+        flags_length: usize,
+        listing: *mut u8,
+        listing_length: usize,
+        totals: &mut [usize; 3],
+    ) -> u8;
+
     pub fn colourway_read(
         listing: *const u8,
         listing_length: usize,

@@ -1,5 +1,5 @@
 //! Safe wrappers of the proved operations on texts, windows, symbol sets and bijections, of the one-window question,
-//! and of the search with its listing, in one call or in two, the listing's reader and its check.
+//! and of the search with its listing, in one call or in two and at scales, the listing's reader and its check.
 //!
 //! A text (document 01's sheet) is `rows` by `columns` symbols (yarn numbers), one byte each, row by row; a pattern
 //! (motif) is `height` by `width`, laid out likewise. A window is the `height` by `width` part of the text at a corner
@@ -56,6 +56,12 @@
 //! alone: it needs no room for a listing, and tells how long it would be. [`list`] then needs nothing but the flags
 //! that the count left; it has an example.
 //!
+//! # At scales
+//!
+//! On coarse cloth each cell of a pattern is drawn as `k` by `k` cells. [`search_scaled`] is the search at such a
+//! scale: its listing is that of the enlarged pattern, which is stored nowhere. [`search_scales`] goes through every
+//! scale that fits, smallest first, and writes one listing after the other; its totals are sums. Both have an example.
+//!
 //! # Refused by number
 //!
 //! | No. | [`Refusal`] | Condition | Given by |
@@ -68,25 +74,31 @@
 //! | 6 | [`ListingForm`] | the listing has the wrong form | [`read`], [`check`] |
 //! | 7 | [`ListingFalse`] | the listing states what is not so | [`check`] |
 //! | 8 | [`TooManyCells`] | text or pattern has more than 16,384 cells | the program |
-//! | 9 | [`LinksBufferShort`] | links are fewer than rows × width | [`strip_links`], [`search`], [`count`] |
+//! | 9 | [`LinksBufferShort`] | links are fewer than rows × width | [`strip_links`] and see below |
 //! | 10 | [`WindowBufferShort`] | flags or counts are fewer than the windows | [`distinct_counts`] and see below |
-//! | 11 | [`ListingBufferShort`] | the buffer is shorter than the listing | [`search`], [`list`], the program |
+//! | 11 | [`ListingBufferShort`] | the buffer is shorter than the listing | see below |
 //! | 12 | [`HasOtherImage`] | the pattern symbol already has another image | [`Bijection::pair`] |
 //! | 13 | [`HasOtherPreimage`] | the text symbol is already another's image | [`Bijection::pair`] |
 //! | 14 | [`ColumnsDisagree`] | columns that disagree or hold a number above 256 | [`Bijection`]'s operations |
 //! | 15 | [`CursorSpent`] | the cursor is at or past the end of the listing | [`read`] |
 //! | 16 | [`FlagsFalse`] | the flag of some window is not the truth | [`list`] |
+//! | 17 | [`ScaleUnfit`] | scale 0, or the enlarged pattern does not fit | [`search_scaled`], [`search_scales`] |
 //!
 //! 2, 3 and 4 are given by [`strip_links`], [`distinct_counts`], [`one_window`], [`search`], [`count`], [`list`],
-//! [`check`] and the program; 10 also by [`search`] and [`count`], and by [`list`] for its flags. Where an input earns
-//! several, the first in an operation's order is given. The order is 2, 3, 4, 5, 9, 10, 16, 11 for those an operation
-//! has; 14, 12, 13 for a bijection; 15, 6 for the reader; 2, 3, 4 for the check, and then 6 or 7 by its first bad
-//! record.
+//! [`check`] and the program; 2 and 3 also by [`search_scaled`] and [`search_scales`], which have 17 in place of 4.
+//! [`search`], [`count`], [`search_scaled`] and [`search_scales`] give 9 and 10, and [`list`] 10 for its flags; 11 is
+//! given by all of these but [`count`], and by the program. At a scale, width and windows are those of the enlarged
+//! pattern: [`search_scales`] asks 9 at the largest scale, 10 at scale 1, and 11 for all listings together.
 //!
-//! A refusal changes no buffer but where an operation says so: 11 of [`search`] alone does. What it returns besides its
-//! number is in the typed refusal: the length needed of 11 in [`SearchRefusal`], the place of the bad record of 6 and 7
-//! in [`CheckRefusal`], the cursor's place of 15 and 6 in [`ReadRefusal`]. The operations whose names end in `_into`
-//! write that value where the answer's own would go, and leave all else.
+//! Where an input earns several, the first in an operation's order is given. The order is 2, 3, 4 or 17, 5, 9, 10, 16,
+//! 11 for those an operation has; 14, 12, 13 for a bijection; 15, 6 for the reader; 2, 3, 4 for the check, and then 6
+//! or 7 by its first bad record.
+//!
+//! A refusal changes no buffer but where an operation says so: 11 of [`search`], [`search_scaled`] and
+//! [`search_scales`] alone does. What it returns besides its number is in the typed refusal: the length needed of 11 in
+//! [`SearchRefusal`], the place of the bad record of 6 and 7 in [`CheckRefusal`], the cursor's place of 15 and 6 in
+//! [`ReadRefusal`]. The operations whose names end in `_into` write that value where the answer's own would go, and
+//! leave all else.
 //!
 //! # Stack
 //!
@@ -97,6 +109,8 @@
 //! | [`search`] | 18 KiB |
 //! | [`count`] | 15 KiB |
 //! | [`list`] | 22 KiB |
+//! | [`search_scaled`] | 19 KiB |
+//! | [`search_scales`] | 25 KiB |
 //! | [`check`] | 15 KiB |
 //! | [`one_window`] | 7 KiB |
 //! | [`Bijection::compose`] | 6 KiB |
@@ -113,7 +127,7 @@
 //! # To build and test
 //!
 //! `rt staticlib exports` and `rt check colourway` at the repository's top, then `cargo test --release --offline` here.
-//! To measure the search beside a plain one, and count, list and check beside the search:
+//! To measure the search beside a plain one, and count, list, check and the searches at scales beside the search:
 //! `cargo run --release --offline -p bench`.
 //! `include/colourway.h` has the same operations for C, and how to link them.
 //!
@@ -133,6 +147,7 @@
 //! [`ColumnsDisagree`]: Refusal::ColumnsDisagree
 //! [`CursorSpent`]: Refusal::CursorSpent
 //! [`FlagsFalse`]: Refusal::FlagsFalse
+//! [`ScaleUnfit`]: Refusal::ScaleUnfit
 
 #![warn(missing_docs)]
 
@@ -142,6 +157,7 @@ mod compare;
 mod count_list;
 mod foreign;
 mod reader;
+mod scales;
 mod search;
 mod texts;
 
@@ -150,6 +166,7 @@ pub use check::{check, check_into, CheckRefusal, Checked};
 pub use compare::{one_window, one_window_into, WindowAnswer};
 pub use count_list::{count, count_into, list, list_into, CountBuffers};
 pub use reader::{read, read_into, records, Place, ReadRefusal, Record, Records};
+pub use scales::{search_scaled, search_scaled_into, search_scales, search_scales_into};
 pub use search::{search, search_into, Buffers, SearchRefusal, Totals};
 pub use texts::{distinct_counts, strip_links, window_cell};
 
@@ -192,11 +209,13 @@ pub enum Refusal {
     CursorSpent = 15,
     /// The flag of some window is not the truth: it is not 1 where the pattern matches, or not 0 where it does not.
     FlagsFalse = 16,
+    /// The scale is 0, or the enlarged pattern is taller or wider than the text; at every scale: no scale fits.
+    ScaleUnfit = 17,
 }
 
 impl Refusal {
     /// Every refusal, in the order of the numbers.
-    pub const ALL: [Refusal; 16] = [
+    pub const ALL: [Refusal; 17] = [
         Refusal::SizesMissing,
         Refusal::SideRange,
         Refusal::CellCount,
@@ -213,6 +232,7 @@ impl Refusal {
         Refusal::ColumnsDisagree,
         Refusal::CursorSpent,
         Refusal::FlagsFalse,
+        Refusal::ScaleUnfit,
     ];
 
     /// Document 01's number of the refusal; those of document 02's requests join its table.
@@ -220,7 +240,7 @@ impl Refusal {
         self as u8
     }
 
-    /// The refusal that has this number: there is one for each from 1 to 16, and no other.
+    /// The refusal that has this number: there is one for each from 1 to 17, and no other.
     pub fn from_number(number: u8) -> Option<Refusal> {
         Refusal::ALL.into_iter().find(|why| why.number() == number)
     }

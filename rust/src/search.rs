@@ -1,9 +1,11 @@
-//! The search with its listing (document 01, 'Search and listing'), in one call. `count_list` has it in two.
+//! The search with its listing (document 01, 'Search and listing'), in one call. `count_list` has it in two, `scales`
+//! for patterns that are enlarged.
 
 use crate::{foreign, outcome, Refusal};
 use std::fmt;
 
-/// What a search is lent. Each buffer may be longer than it needs to be: what lies beyond stays as it was.
+/// What a search is lent. Each buffer may be longer than it needs to be: what lies beyond stays as it was. At a scale,
+/// `width` and the windows are those of the enlarged pattern ([`search_scaled`](crate::search_scaled)).
 #[derive(Debug)]
 pub struct Buffers<'a> {
     /// At least `rows * width` entries, in which the search works. It leaves zeros in them.
@@ -17,7 +19,8 @@ pub struct Buffers<'a> {
     pub listing: &'a mut [u8],
 }
 
-/// What an accepted search returns, and either of its two halves, [`count`](crate::count) and [`list`](crate::list).
+/// What an accepted search returns, and either of its two halves, [`count`](crate::count) and [`list`](crate::list). Of
+/// a search at every scale ([`search_scales`](crate::search_scales)) they are the sums.
 #[derive(Clone, Copy, Debug, PartialEq, Eq)]
 pub struct Totals {
     /// How many windows the pattern matches.

@@ -196,10 +196,10 @@ fn a_symbol_is_gone_when_its_last_occurrence_is() {
 #[test]
 fn numbers_and_refusals_correspond() {
     let numbers = Refusal::ALL.map(Refusal::number);
-    let expected: [u8; 16] = std::array::from_fn(|place| place as u8 + 1);
+    let expected: [u8; 17] = std::array::from_fn(|place| place as u8 + 1);
     assert_eq!(numbers, expected);
     for number in 0..=255 {
-        let has_it = (1..=16).contains(&number);
+        let has_it = (1..=17).contains(&number);
         let back = Refusal::from_number(number).map(Refusal::number);
         assert_eq!(back, has_it.then_some(number));
     }
@@ -207,5 +207,6 @@ fn numbers_and_refusals_correspond() {
     assert_eq!(Refusal::from_number(5), Some(Refusal::CornerOutside));
     assert_eq!(Refusal::from_number(8), Some(Refusal::TooManyCells));
     assert_eq!(Refusal::from_number(16), Some(Refusal::FlagsFalse));
+    assert_eq!(Refusal::from_number(17), Some(Refusal::ScaleUnfit));
     assert_eq!(Refusal::SideRange.to_string(), "refused 2");
 }

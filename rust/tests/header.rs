@@ -162,7 +162,7 @@ fn declared_in_c() -> Functions {
 #[test]
 fn three_declarations_agree() {
     let exported = exported();
-    assert!(exported.len() >= 17, "{} functions", exported.len());
+    assert!(exported.len() >= 19, "{} functions", exported.len());
     assert!(exported.keys().all(|name| name.starts_with("colourway_")));
     let [rust, c] = [declared_in_rust(), declared_in_c()];
     for (name, function) in &exported {
@@ -193,6 +193,10 @@ fn a_declaration_is_read() {
         assert_eq!(functions["colourway_search"].parameters.len(), 17);
         assert_eq!(functions["colourway_count"].parameters.len(), 15);
         assert_eq!(functions["colourway_list"].parameters.len(), 13);
+        let scaled = &functions["colourway_search_scaled"].parameters;
+        assert_eq!(scaled.len(), 18);
+        assert_eq!(scaled[8], ("scale".to_string(), "usize".to_string()));
+        assert_eq!(functions["colourway_search_scales"].parameters.len(), 17);
         assert_eq!(functions["colourway_symbols"].result, "()");
     }
 }

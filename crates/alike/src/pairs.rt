@@ -6,7 +6,11 @@ ghost use lib.ListN.{length, getD, replicate};
 ghost use Rattle.theory.specs.First.{every};
 ghost use Rattle.prefixes.specs.State.{FirstPlaces};
 ghost use Rattle.alike.specs.Pairs.{AlikePairs, PairsInside, alikeAt};
+ghost use Rattle.placed.specs.Placing.{placed};
 use cells::windows::cell_offset;
+use placed::placing::Placing;
+use placed::placing::pattern_at;
+use placed::placing::pattern_cells;
 
 // Eight times the corner itself: a pair of a cell with itself, which is alike in every window.
 pub fn no_offsets() -> [usize; 8]
@@ -20,6 +24,7 @@ pub fn no_offsets() -> [usize; 8]
 // matter of time.
 pub fn alike_pairs(
     pattern: &[u8],
+    g: Placing,
     first: &[usize; 256],
     columns: usize,
     width: usize,
@@ -27,17 +32,21 @@ pub fn alike_pairs(
     later: &mut [usize; 8],
 )
     requires { ⌜
-        FirstPlaces (λ k. getD (now pattern) k 0) (length (now pattern)) (now first) × (0 < width) × (columns ≤ 255)
-        × (length (now pattern) ≤ 65025) × AlikePairs (now pattern) columns width (now earlier) (now later) ⌝ }
-    ensures { λ r. ⌜ AlikePairs (now (pattern .entry)) columns width (now (earlier .exit)) (now (later .exit)) ⌝ }
+        FirstPlaces (λ k. getD (placed (now pattern) g) k 0) (length (placed (now pattern) g)) (now first)
+        × (0 < width) × (columns ≤ 255)
+        × (length (placed (now pattern) g) ≤ 65025) × AlikePairs (placed (now pattern) g) columns width (now earlier)
+        (now later) ⌝ }
+    ensures { λ r. ⌜
+        AlikePairs (placed (now (pattern .entry)) g) columns width (now (earlier .exit)) (now (later .exit)) ⌝ }
 {
+    let cells = pattern_cells(pattern, g);
     let mut n = 0;
     let mut q = 0;
-    while q < pattern.len() {
+    while q < cells {
         if n == 8 {
             return;
         }
-        let p = first[pattern[q] as usize];
+        let p = first[pattern_at(pattern, g, q) as usize];
         if p == q {
             q += 1;
             continue;

@@ -11,7 +11,10 @@ ghost use Rattle.sweep.specs.Sweep.{OwnSoFar};
 ghost use Rattle.flags.specs.Flags.{RoomFor, rooms, working, workAfter};
 ghost use Rattle.totals.specs.Totalled.{Totalled};
 ghost use Rattle.searched.specs.Search.{countDone, countOf};
+ghost use Rattle.placed.specs.Placing.{placed};
 use flagged::windows::flag_all;
+use placed::placing::AS_IT_IS;
+use placed::placing::Placing;
 use refusals::refusals::Outcome;
 use rooms::rooms::room_outcome;
 use rows::places::no_positions;
@@ -28,6 +31,7 @@ use totals::totals::totals_of;
 pub fn count_flagged(
     text: &[u8],
     pattern: &[u8],
+    g: Placing,
     s: Shape,
     symbols: u16,
     first: &[usize; 256],
@@ -38,22 +42,26 @@ pub fn count_flagged(
     flags: &mut [u8],
 ) -> Totals
     requires { ⌜
-        RoomFor (asked (now text) (now pattern) s)
-        (rooms (length (now links)) (length (now counts)) (length (now flags))) × (symbols ≡ distinct (now pattern))
-        × FirstPlaces (λ k. getD (now pattern) k 0) (length (now pattern)) (now first)
-        × OwnSoFar (now pattern) (s .width) (down s) (now selves) (now earlies) ⌝ }
+        RoomFor (asked (now text) (placed (now pattern) g) s)
+        (rooms (length (now links)) (length (now counts)) (length (now flags)))
+        × (symbols ≡ distinct (placed (now pattern) g))
+        × FirstPlaces (λ k. getD (placed (now pattern) g) k 0) (length (placed (now pattern) g)) (now first)
+        × OwnSoFar (placed (now pattern) g) (s .width) (down s) (now selves) (now earlies) ⌝ }
     ensures { λ r. ⌜
         working (now (links .exit)) (now (counts .exit)) (now (flags .exit))
-        ≡ workAfter (asked (now (text .entry)) (now (pattern .entry)) s)
+        ≡ workAfter (asked (now (text .entry)) (placed (now (pattern .entry)) g) s)
         (working (now (links .entry)) (now (counts .entry)) (now (flags .entry))) ⌝ }
-    ensures { λ r. ⌜ Totalled (now (text .entry)) (now (pattern .entry)) s (r .found) (r .refused) (r .length) ⌝ }
-    ensures { λ r. ⌜ OwnSoFar (now (pattern .entry)) (s .width) (down s) (now (selves .exit)) (now (earlies .exit)) ⌝ }
+    ensures { λ r. ⌜
+        Totalled (now (text .entry)) (placed (now (pattern .entry)) g) s (r .found) (r .refused) (r .length) ⌝ }
+    ensures { λ r. ⌜
+        OwnSoFar (placed (now (pattern .entry)) g) (s .width) (down s) (now (selves .exit)) (now (earlies .exit)) ⌝ }
 {
     let n = (s.rows + 1 - s.height) * (s.columns + 1 - s.width);
     let places = *first;
     flag_all(
         text,
         pattern,
+        g,
         &places,
         selves,
         earlies,
@@ -63,7 +71,47 @@ pub fn count_flagged(
         counts,
         flags,
     );
-    totals_of(pattern, symbols, flags, n)
+    totals_of(pattern, g, symbols, flags, n)
+}
+
+// The same with nothing known of the pattern: what it says by itself is found first.
+pub fn count_laid(
+    text: &[u8],
+    pattern: &[u8],
+    g: Placing,
+    s: Shape,
+    links: &mut [u16],
+    counts: &mut [u16],
+    flags: &mut [u8],
+) -> Totals
+    requires { ⌜
+        RoomFor (asked (now text) (placed (now pattern) g) s)
+        (rooms (length (now links)) (length (now counts)) (length (now flags))) ⌝ }
+    ensures { λ r. ⌜
+        working (now (links .exit)) (now (counts .exit)) (now (flags .exit))
+        ≡ workAfter (asked (now (text .entry)) (placed (now (pattern .entry)) g) s)
+        (working (now (links .entry)) (now (counts .entry)) (now (flags .entry))) ⌝ }
+    ensures { λ r. ⌜
+        Totalled (now (text .entry)) (placed (now (pattern .entry)) g) s (r .found) (r .refused) (r .length) ⌝ }
+{
+    let mut first = no_positions();
+    let mut listed = no_symbols();
+    let symbols = read_pattern(pattern, g, &mut first, &mut listed);
+    let mut selves = no_positions();
+    let mut earlies = no_positions();
+    count_flagged(
+        text,
+        pattern,
+        g,
+        s,
+        symbols,
+        &first,
+        &mut selves,
+        &mut earlies,
+        links,
+        counts,
+        flags,
+    )
 }
 
 // Count where nothing is left to refuse.
@@ -83,23 +131,7 @@ fn count_posed(
         ≡ countOf (asked (now (text .entry)) (now (pattern .entry)) s)
         (working (now (links .entry)) (now (counts .entry)) (now (flags .entry))) ⌝ }
 {
-    let mut first = no_positions();
-    let mut listed = no_symbols();
-    let symbols = read_pattern(pattern, &mut first, &mut listed);
-    let mut selves = no_positions();
-    let mut earlies = no_positions();
-    let totals = count_flagged(
-        text,
-        pattern,
-        s,
-        symbols,
-        &first,
-        &mut selves,
-        &mut earlies,
-        links,
-        counts,
-        flags,
-    );
+    let totals = count_laid(text, pattern, AS_IT_IS, s, links, counts, flags);
     Searched::Listed {
         found: totals.found,
         refused: totals.refused,

@@ -15,13 +15,15 @@ ghost use Rattle.entries.specs.Listing.Offsets.{PairTables};
 ghost use Rattle.entries.specs.Listing.Pairs.{pairBytes};
 ghost use Rattle.entries.specs.Listing.Entries.{imagesAt, foundRecords, Unmatched, Answered};
 ghost use Rattle.entries.specs.Listing.{stripWindow};
+ghost use Rattle.placed.specs.Placing.{placed};
 use cells::windows::WindowPlace;
 use listing::records::MismatchBody;
 use listing::records::Place;
 use listing::records::Record;
 use listing::records::write_mismatch;
 use listing::records::write_record;
-use rows::places::pattern_at;
+use placed::placing::Placing;
+use placed::placing::pattern_at;
 use shapes::shapes::Shape;
 
 // The window at row top of the strip at column left.
@@ -43,22 +45,24 @@ fn write_pairs(
     text: &[u8],
     v: WindowPlace,
     pattern: &[u8],
+    g: Placing,
     listed: &[u8],
     offsets: &[usize; 256],
     listing: &mut [u8],
     at: usize,
 ) -> usize
     requires { ⌜
-        Placed (now text) v × (length (now pattern) ≡ cellCount v)
-        × PairTables (now pattern) (v .columns) (v .width) (now listed) (now offsets)
-        × (at + length (pairBytes (imagesAt (now text) v (now pattern)) (symbolsOf (now pattern)))
+        Placed (now text) v × (length (placed (now pattern) g) ≡ cellCount v)
+        × PairTables (placed (now pattern) g) (v .columns) (v .width) (now listed) (now offsets)
+        × (at + length (pairBytes (imagesAt (now text) v (placed (now pattern) g)) (symbolsOf (placed (now pattern) g)))
         ≤ length (now listing)) ⌝ }
     ensures { λ r. ⌜
-        r ≡ at + length (pairBytes (imagesAt (now (text .entry)) v (now (pattern .entry)))
-        (symbolsOf (now (pattern .entry)))) ⌝ }
+        r ≡ at + length (pairBytes (imagesAt (now (text .entry)) v (placed (now (pattern .entry)) g))
+        (symbolsOf (placed (now (pattern .entry)) g))) ⌝ }
     ensures { λ r. ⌜
         now (listing .exit) ≡ written (now (listing .entry)) at
-        (pairBytes (imagesAt (now (text .entry)) v (now (pattern .entry))) (symbolsOf (now (pattern .entry)))) ⌝ }
+        (pairBytes (imagesAt (now (text .entry)) v (placed (now (pattern .entry)) g))
+        (symbolsOf (placed (now (pattern .entry)) g))) ⌝ }
 {
     let corner = v.row * v.columns + v.column;
     let d = listed.len();
@@ -82,26 +86,28 @@ fn write_found(
     text: &[u8],
     v: WindowPlace,
     pattern: &[u8],
+    g: Placing,
     listed: &[u8],
     offsets: &[usize; 256],
     listing: &mut [u8],
     at: usize,
 ) -> usize
     requires { ⌜
-        Placed (now text) v × SmallPlace v × (length (now pattern) ≡ cellCount v)
-        × PairTables (now pattern) (v .columns) (v .width) (now listed) (now offsets)
-        × (at + length (bytesAll (foundRecords (now text) v (now pattern))) ≤ length (now listing)) ⌝ }
-    ensures { λ r. ⌜ r ≡ at + length (bytesAll (foundRecords (now (text .entry)) v (now (pattern .entry)))) ⌝ }
+        Placed (now text) v × SmallPlace v × (length (placed (now pattern) g) ≡ cellCount v)
+        × PairTables (placed (now pattern) g) (v .columns) (v .width) (now listed) (now offsets)
+        × (at + length (bytesAll (foundRecords (now text) v (placed (now pattern) g))) ≤ length (now listing)) ⌝ }
+    ensures { λ r. ⌜
+        r ≡ at + length (bytesAll (foundRecords (now (text .entry)) v (placed (now (pattern .entry)) g))) ⌝ }
     ensures { λ r. ⌜
         now (listing .exit) ≡ written (now (listing .entry)) at
-        (bytesAll (foundRecords (now (text .entry)) v (now (pattern .entry)))) ⌝ }
+        (bytesAll (foundRecords (now (text .entry)) v (placed (now (pattern .entry)) g))) ⌝ }
 {
     let found = Record::Found {
         row: v.row as u8,
         column: v.column as u8,
     };
     let next = write_record(listing, at, found);
-    write_pairs(text, v, pattern, listed, offsets, listing, next)
+    write_pairs(text, v, pattern, g, listed, offsets, listing, next)
 }
 
 // The cell at a position of the window. Positions have 16 bits, and a division of 32 costs less than one of 64.
@@ -138,21 +144,22 @@ pub fn write_refused(
     text: &[u8],
     v: WindowPlace,
     pattern: &[u8],
+    g: Placing,
     later: usize,
     earlier: usize,
     listing: &mut [u8],
     at: usize,
 ) -> usize
     requires { ⌜
-        Unmatched (now text) v (now pattern)
-        × EndIs (patternAt (now pattern)) (windowOf (now text) v) (cellCount v) later earlier
-        × (at + length (bytesAll (entryAt (now text) (now pattern) v)) ≤ length (now listing)) ⌝ }
-    ensures { λ r. ⌜ r ≡ at + length (bytesAll (entryAt (now (text .entry)) (now (pattern .entry)) v)) ⌝ }
+        Unmatched (now text) v (placed (now pattern) g)
+        × EndIs (patternAt (placed (now pattern) g)) (windowOf (now text) v) (cellCount v) later earlier
+        × (at + length (bytesAll (entryAt (now text) (placed (now pattern) g) v)) ≤ length (now listing)) ⌝ }
+    ensures { λ r. ⌜ r ≡ at + length (bytesAll (entryAt (now (text .entry)) (placed (now (pattern .entry)) g) v)) ⌝ }
     ensures { λ r. ⌜
         now (listing .exit) ≡ written (now (listing .entry)) at
-        (bytesAll (entryAt (now (text .entry)) (now (pattern .entry)) v)) ⌝ }
+        (bytesAll (entryAt (now (text .entry)) (placed (now (pattern .entry)) g) v)) ⌝ }
 {
-    let alike = pattern_at(pattern, earlier) == pattern_at(pattern, later);
+    let alike = pattern_at(pattern, g, earlier) == pattern_at(pattern, g, later);
     let body = mismatch_body(v, earlier, later);
     write_mismatch(listing, at, alike, body)
 }
@@ -163,6 +170,7 @@ pub fn write_if_found(
     text: &[u8],
     v: WindowPlace,
     pattern: &[u8],
+    g: Placing,
     flag: u8,
     listed: &[u8],
     offsets: &[usize; 256],
@@ -170,16 +178,16 @@ pub fn write_if_found(
     at: usize,
 ) -> usize
     requires { ⌜
-        Answered (now text) v (now pattern) flag (now listed) (now offsets)
-        × (at + length (bytesAll (entryAt (now text) (now pattern) v)) ≤ length (now listing)) ⌝ }
-    ensures { λ r. ⌜ r ≡ at + length (bytesAll (entryAt (now (text .entry)) (now (pattern .entry)) v)) ⌝ }
+        Answered (now text) v (placed (now pattern) g) flag (now listed) (now offsets)
+        × (at + length (bytesAll (entryAt (now text) (placed (now pattern) g) v)) ≤ length (now listing)) ⌝ }
+    ensures { λ r. ⌜ r ≡ at + length (bytesAll (entryAt (now (text .entry)) (placed (now (pattern .entry)) g) v)) ⌝ }
     ensures { λ r. ⌜
         now (listing .exit) ≡ pick (eqb flag 1)
-        (written (now (listing .entry)) at (bytesAll (entryAt (now (text .entry)) (now (pattern .entry)) v)))
+        (written (now (listing .entry)) at (bytesAll (entryAt (now (text .entry)) (placed (now (pattern .entry)) g) v)))
         (now (listing .entry)) ⌝ }
 {
     if flag == 1 {
-        return write_found(text, v, pattern, listed, offsets, listing, at);
+        return write_found(text, v, pattern, g, listed, offsets, listing, at);
     }
     at + 7
 }

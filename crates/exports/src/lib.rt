@@ -7,6 +7,8 @@ pub mod compare;
 pub mod count;
 pub mod list;
 pub mod reader;
+pub mod scaled_search;
+pub mod scales_search;
 pub mod searching;
 pub mod symbols;
 pub mod texts;

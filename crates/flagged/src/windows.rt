@@ -12,16 +12,19 @@ ghost use Rattle.flags.specs.Flags.Strips.{flagOf, Ready};
 ghost use Rattle.flagging.specs.Links.{RestKept};
 ghost use Rattle.sweep.specs.Sweep.{OwnSoFar, SweepAt};
 ghost use Rattle.alike.specs.Pairs.{AlikePairs};
+ghost use Rattle.placed.specs.Placing.{placed};
 use alike::pairs::alike_pairs;
 use alike::pairs::no_offsets;
 use counts::counts::distinct_counts;
 use flagging::strip::flag_column;
+use placed::placing::Placing;
 use shapes::shapes::Shape;
 
 // The flags of all windows, strip by strip.
 fn flag_windows(
     text: &[u8],
     pattern: &[u8],
+    g: Placing,
     first: &[usize; 256],
     selves: &mut [usize; 256],
     earlies: &mut [usize; 256],
@@ -34,14 +37,15 @@ fn flag_windows(
     flags: &mut [u8],
 )
     requires { ⌜
-        Ready (now text) (now pattern) symbols s (now counts) (length (now links)) (length (now flags))
-        × SweepAt (now text) s (now pattern) (now first) (now selves) (now earlies)
-        × AlikePairs (now pattern) (s .columns) (s .width) (now earlier) (now later) ⌝ }
+        Ready (now text) (placed (now pattern) g) symbols s (now counts) (length (now links)) (length (now flags))
+        × SweepAt (now text) s (placed (now pattern) g) (now first) (now selves) (now earlies)
+        × AlikePairs (placed (now pattern) g) (s .columns) (s .width) (now earlier) (now later) ⌝ }
     ensures { λ r. ⌜
-        now (flags .exit) ≡ storedRows (flagOf (now (text .entry)) (now (pattern .entry)) s)
+        now (flags .exit) ≡ storedRows (flagOf (now (text .entry)) (placed (now (pattern .entry)) g) s)
         (λ left top. top * across s + left) (across s) (down s) (now (flags .entry)) ⌝ }
     ensures { λ r. ⌜ RestKept (s .rows * s .width) (now (links .entry)) (now (links .exit)) ⌝ }
-    ensures { λ r. ⌜ OwnSoFar (now (pattern .entry)) (s .width) (down s) (now (selves .exit)) (now (earlies .exit)) ⌝ }
+    ensures { λ r. ⌜
+        OwnSoFar (placed (now (pattern .entry)) g) (s .width) (down s) (now (selves .exit)) (now (earlies .exit)) ⌝ }
 {
     let across = s.columns + 1 - s.width;
     let mut left = 0;
@@ -49,6 +53,7 @@ fn flag_windows(
         flag_column(
             text,
             pattern,
+            g,
             first,
             selves,
             earlies,
@@ -83,6 +88,7 @@ fn clear_links(links: &mut [u16], n: usize)
 pub fn flag_all(
     text: &[u8],
     pattern: &[u8],
+    g: Placing,
     first: &[usize; 256],
     selves: &mut [usize; 256],
     earlies: &mut [usize; 256],
@@ -93,23 +99,34 @@ pub fn flag_all(
     flags: &mut [u8],
 )
     requires { ⌜
-        RoomFor (asked (now text) (now pattern) s)
-        (rooms (length (now links)) (length (now counts)) (length (now flags))) × (symbols ≡ distinct (now pattern))
-        × FirstPlaces (λ k. getD (now pattern) k 0) (length (now pattern)) (now first)
-        × OwnSoFar (now pattern) (s .width) (down s) (now selves) (now earlies) ⌝ }
+        RoomFor (asked (now text) (placed (now pattern) g) s)
+        (rooms (length (now links)) (length (now counts)) (length (now flags)))
+        × (symbols ≡ distinct (placed (now pattern) g))
+        × FirstPlaces (λ k. getD (placed (now pattern) g) k 0) (length (placed (now pattern) g)) (now first)
+        × OwnSoFar (placed (now pattern) g) (s .width) (down s) (now selves) (now earlies) ⌝ }
     ensures { λ r. ⌜
         working (now (links .exit)) (now (counts .exit)) (now (flags .exit))
-        ≡ workAfter (asked (now (text .entry)) (now (pattern .entry)) s)
+        ≡ workAfter (asked (now (text .entry)) (placed (now (pattern .entry)) g) s)
         (working (now (links .entry)) (now (counts .entry)) (now (flags .entry))) ⌝ }
-    ensures { λ r. ⌜ OwnSoFar (now (pattern .entry)) (s .width) (down s) (now (selves .exit)) (now (earlies .exit)) ⌝ }
+    ensures { λ r. ⌜
+        OwnSoFar (placed (now (pattern .entry)) g) (s .width) (down s) (now (selves .exit)) (now (earlies .exit)) ⌝ }
 {
     distinct_counts(text, s.rows, s.columns, s.height, s.width, counts);
     let mut earlier = no_offsets();
     let mut later = no_offsets();
-    alike_pairs(pattern, first, s.columns, s.width, &mut earlier, &mut later);
+    alike_pairs(
+        pattern,
+        g,
+        first,
+        s.columns,
+        s.width,
+        &mut earlier,
+        &mut later,
+    );
     flag_windows(
         text,
         pattern,
+        g,
         first,
         selves,
         earlies,

@@ -23,6 +23,7 @@ use Rattle.occurrences.specs.Distinct.{distinct}
 use Rattle.prefixes.specs.Prefixes.{suffix}
 use Rattle.prefixes.specs.State.{FirstPlaces}
 use Rattle.sweep.specs.Sweep.{OwnSoFar}
+use Rattle.sweep.specs.Sweep.Runs.{cells-some}
 use Rattle.linked.specs.declared.run.RunFlag.{RunFlag}
 use Rattle.flags.specs.Flags.{Room}
 use Rattle.flags.specs.Flags.Laws.{strip-part, strip-small}
@@ -144,6 +145,7 @@ module _ (pattern first selves : List ℕ) (symbols : ℕ) (s : Shape) (left fro
     windows-ask =
         let v = room .shape in
         record {
+          some = cells-some s _ _ (room .shape) (room .size);
           places = own .places;
           owns = record { long = own .ends .long; each = λ k l. own .ends .each k (omega arith) };
           room = omega (arith, part, room .links-room);

@@ -11,9 +11,12 @@ ghost use Rattle.flagging.specs.Links.{RestKept};
 ghost use Rattle.flagging.specs.Windows.{FlaggedBelow, PatternTables, StripFlagged};
 ghost use Rattle.sweep.specs.Sweep.{OwnSoFar, SweepAt};
 ghost use Rattle.alike.specs.Pairs.{AlikePairs};
+ghost use Rattle.placed.specs.Placing.{placed};
 use flags::swept::flags_to_match;
 use grid::strips::strip_links;
 use linked::run::next_flag;
+use placed::placing::Placing;
+use placed::placing::pattern_cells;
 use shapes::shapes::Shape;
 use sweep::own::lengthen_ends;
 
@@ -21,6 +24,7 @@ use sweep::own::lengthen_ends;
 // was compared says of it.
 fn flag_strip(
     pattern: &[u8],
+    g: Placing,
     first: &[usize; 256],
     selves: &[usize; 256],
     symbols: u16,
@@ -32,23 +36,24 @@ fn flag_strip(
     flags: &mut [u8],
 )
     requires { ⌜
-        Room (s .rows * s .columns) (length (now pattern)) s (length (now links)) (length (now counts))
+        Room (s .rows * s .columns) (length (placed (now pattern) g)) s (length (now links)) (length (now counts))
         (length (now flags)) × (left < across s)
-        × PatternTables (now pattern) (s .width) (down s) (now first) (now selves)
+        × PatternTables (placed (now pattern) g) (s .width) (down s) (now first) (now selves)
         × (1 ≤ from) × (from ≤ down s) ⌝ }
     ensures { λ r. ⌜
-        StripFlagged (now (pattern .entry)) symbols s left from (now (counts .entry)) (now (links .entry))
+        StripFlagged (placed (now (pattern .entry)) g) symbols s left from (now (counts .entry)) (now (links .entry))
         (now (flags .entry)) (now (flags .exit)) ⌝ }
 {
     let across = s.columns + 1 - s.width;
     let down = s.rows + 1 - s.height;
     let mut row = from - 1;
-    let mut reached = row * s.width + pattern.len();
+    let mut reached = row * s.width + pattern_cells(pattern, g);
     let mut top = from;
     while top < down {
         let k = top * across + left;
         let r = next_flag(
             pattern,
+            g,
             first,
             selves,
             symbols,
@@ -71,6 +76,7 @@ fn flag_strip(
 fn flag_linked(
     text: &[u8],
     pattern: &[u8],
+    g: Placing,
     first: &[usize; 256],
     selves: &mut [usize; 256],
     earlies: &mut [usize; 256],
@@ -83,29 +89,33 @@ fn flag_linked(
     flags: &mut [u8],
 )
     requires { ⌜
-        Ready (now text) (now pattern) symbols s (now counts) (length (now links)) (length (now flags))
-        × (left < across s) × SweepAt (now text) s (now pattern) (now first) (now selves) (now earlies)
+        Ready (now text) (placed (now pattern) g) symbols s (now counts) (length (now links)) (length (now flags))
+        × (left < across s) × SweepAt (now text) s (placed (now pattern) g) (now first) (now selves) (now earlies)
         × (1 ≤ from) × (from ≤ down s)
-        × (flagOf (now text) (now pattern) s ((from - 1) * across s + left) ≡ 1) ⌝ }
+        × (flagOf (now text) (placed (now pattern) g) s ((from - 1) * across s + left) ≡ 1) ⌝ }
     ensures { λ r. ⌜
-        FlaggedBelow (now (text .entry)) (now (pattern .entry)) s left from (now (flags .entry)) (now (flags .exit)) ⌝ }
+        FlaggedBelow (now (text .entry)) (placed (now (pattern .entry)) g) s left from (now (flags .entry))
+        (now (flags .exit)) ⌝ }
     ensures { λ r. ⌜ RestKept (s .rows * s .width) (now (links .entry)) (now (links .exit)) ⌝ }
-    ensures { λ r. ⌜ OwnSoFar (now (pattern .entry)) (s .width) (down s) (now (selves .exit)) (now (earlies .exit)) ⌝ }
+    ensures { λ r. ⌜
+        OwnSoFar (placed (now (pattern .entry)) g) (s .width) (down s) (now (selves .exit)) (now (earlies .exit)) ⌝ }
 {
     strip_links(text, s.rows, s.columns, s.width, left, links);
     let windows = s.rows + 1 - s.height;
     lengthen_ends(
         pattern,
+        g,
         s.height,
         s.width,
         windows,
         first,
         selves,
         earlies,
-        pattern.len(),
+        pattern_cells(pattern, g),
     );
     flag_strip(
         pattern,
+        g,
         first,
         selves,
         symbols,
@@ -122,6 +132,7 @@ fn flag_linked(
 pub fn flag_column(
     text: &[u8],
     pattern: &[u8],
+    g: Placing,
     first: &[usize; 256],
     selves: &mut [usize; 256],
     earlies: &mut [usize; 256],
@@ -135,18 +146,20 @@ pub fn flag_column(
     flags: &mut [u8],
 )
     requires { ⌜
-        Ready (now text) (now pattern) symbols s (now counts) (length (now links)) (length (now flags))
-        × (left < across s) × SweepAt (now text) s (now pattern) (now first) (now selves) (now earlies)
-        × AlikePairs (now pattern) (s .columns) (s .width) (now earlier) (now later) ⌝ }
+        Ready (now text) (placed (now pattern) g) symbols s (now counts) (length (now links)) (length (now flags))
+        × (left < across s) × SweepAt (now text) s (placed (now pattern) g) (now first) (now selves) (now earlies)
+        × AlikePairs (placed (now pattern) g) (s .columns) (s .width) (now earlier) (now later) ⌝ }
     ensures { λ r. ⌜
-        now (flags .exit) ≡ stored (flagOf (now (text .entry)) (now (pattern .entry)) s)
+        now (flags .exit) ≡ stored (flagOf (now (text .entry)) (placed (now (pattern .entry)) g) s)
         (λ top. top * across s + left) (down s) (now (flags .entry)) ⌝ }
     ensures { λ r. ⌜ RestKept (s .rows * s .width) (now (links .entry)) (now (links .exit)) ⌝ }
-    ensures { λ r. ⌜ OwnSoFar (now (pattern .entry)) (s .width) (down s) (now (selves .exit)) (now (earlies .exit)) ⌝ }
+    ensures { λ r. ⌜
+        OwnSoFar (placed (now (pattern .entry)) g) (s .width) (down s) (now (selves .exit)) (now (earlies .exit)) ⌝ }
 {
     let from = flags_to_match(
         text,
         pattern,
+        g,
         first,
         earlier,
         later,
@@ -164,6 +177,7 @@ pub fn flag_column(
     flag_linked(
         text,
         pattern,
+        g,
         first,
         selves,
         earlies,

@@ -12,9 +12,12 @@ ghost use Rattle.sweep.specs.Sweep.{OwnSoFar, RunAt, SweepAt, columnStrip};
 ghost use Rattle.alike.specs.Pairs.{AlikePairs};
 ghost use Rattle.flags.specs.Flags.Strips.{Ready};
 ghost use Rattle.flags.specs.Flags.Swept.{FlagIs, FreshAt, ToMatch};
+ghost use Rattle.placed.specs.Placing.{placed};
 use grid::strips::Strip;
 use linked::run::RunFlag;
 use linked::run::flag_by;
+use placed::placing::Placing;
+use placed::placing::pattern_cells;
 use rows::places::no_positions;
 use shapes::shapes::Shape;
 use sieve::pairs::pairs_pass;
@@ -28,14 +31,15 @@ use sweep::windows::ready_ends;
 fn fresh_flag(
     text: &[u8],
     pattern: &[u8],
+    g: Placing,
     first: &[usize; 256],
     s: Shape,
     left: usize,
     last: &mut [usize; 256],
     top: usize,
 ) -> RunFlag
-    requires { ⌜ FreshAt (now text) s (now pattern) (now first) (now last) left top ⌝ }
-    ensures { λ r. ⌜ FlagIs (now (text .entry)) (now (pattern .entry)) s left top (now (last .exit)) r ⌝ }
+    requires { ⌜ FreshAt (now text) s (placed (now pattern) g) (now first) (now last) left top ⌝ }
+    ensures { λ r. ⌜ FlagIs (now (text .entry)) (placed (now (pattern .entry)) g) s left top (now (last .exit)) r ⌝ }
 {
     let t = Strip {
         rows: s.rows,
@@ -43,11 +47,11 @@ fn fresh_flag(
         left,
         width: s.width,
     };
-    let r = compared(text, t, pattern, first, last, top, s.height, top, 0);
+    let r = compared(text, t, pattern, g, first, last, top, s.height, top, 0);
     RunFlag {
         row: r.row,
         reached: r.reached,
-        flag: flag_by(r.end, pattern.len()),
+        flag: flag_by(r.end, pattern_cells(pattern, g)),
     }
 }
 
@@ -55,6 +59,7 @@ fn fresh_flag(
 fn lower_flag(
     text: &[u8],
     pattern: &[u8],
+    g: Placing,
     first: &[usize; 256],
     s: Shape,
     left: usize,
@@ -66,13 +71,14 @@ fn lower_flag(
     top: usize,
 ) -> RunFlag
     requires { ⌜
-        SweepAt (now text) s (now pattern) (now first) (now selves) (now earlies) × (left < across s)
+        SweepAt (now text) s (placed (now pattern) g) (now first) (now selves) (now earlies) × (left < across s)
         × (top < down s)
-        × RunAt (now text) (columnStrip s left) (now pattern) (now last) row reached top (s .height) ⌝ }
-    ensures { λ r. ⌜ FlagIs (now (text .entry)) (now (pattern .entry)) s left top (now (last .exit)) r ⌝ }
-    ensures { λ r. ⌜ OwnSoFar (now (pattern .entry)) (s .width) (down s) (now (selves .exit)) (now (earlies .exit)) ⌝ }
+        × RunAt (now text) (columnStrip s left) (placed (now pattern) g) (now last) row reached top (s .height) ⌝ }
+    ensures { λ r. ⌜ FlagIs (now (text .entry)) (placed (now (pattern .entry)) g) s left top (now (last .exit)) r ⌝ }
+    ensures { λ r. ⌜
+        OwnSoFar (placed (now (pattern .entry)) g) (s .width) (down s) (now (selves .exit)) (now (earlies .exit)) ⌝ }
 {
-    ready_ends(pattern, s, first, selves, earlies, row, reached);
+    ready_ends(pattern, g, s, first, selves, earlies, row, reached);
     let t = Strip {
         rows: s.rows,
         columns: s.columns,
@@ -83,6 +89,7 @@ fn lower_flag(
         text,
         t,
         pattern,
+        g,
         first,
         last,
         selves,
@@ -95,7 +102,7 @@ fn lower_flag(
     RunFlag {
         row: r.row,
         reached: r.reached,
-        flag: flag_by(r.end, pattern.len()),
+        flag: flag_by(r.end, pattern_cells(pattern, g)),
     }
 }
 
@@ -104,6 +111,7 @@ fn lower_flag(
 fn swept_flag(
     text: &[u8],
     pattern: &[u8],
+    g: Placing,
     first: &[usize; 256],
     earlier: &[usize; 8],
     later: &[usize; 8],
@@ -119,16 +127,18 @@ fn swept_flag(
     top: usize,
 ) -> RunFlag
     requires { ⌜
-        SweepAt (now text) s (now pattern) (now first) (now selves) (now earlies) × (left < across s)
-        × (top < down s) × AlikePairs (now pattern) (s .columns) (s .width) (now earlier) (now later)
-        × RunAt (now text) (columnStrip s left) (now pattern) (now last) row reached top (s .height) ⌝ }
+        SweepAt (now text) s (placed (now pattern) g) (now first) (now selves) (now earlies) × (left < across s)
+        × (top < down s) × AlikePairs (placed (now pattern) g) (s .columns) (s .width) (now earlier) (now later)
+        × RunAt (now text) (columnStrip s left) (placed (now pattern) g) (now last) row reached top (s .height) ⌝ }
     ensures { λ r. ⌜
-        r .flag ≡ flagByEnd (now (pattern .entry)) symbols count
+        r .flag ≡ flagByEnd (placed (now (pattern .entry)) g) symbols count
         (suffix (stripAt (now (text .entry)) (s .columns) left (s .width)) (top * s .width)) ⌝ }
     ensures { λ r. ⌜
-        RunAt (now (text .entry)) (columnStrip s left) (now (pattern .entry)) (now (last .exit)) (r .row) (r .reached)
+        RunAt (now (text .entry)) (columnStrip s left) (placed (now (pattern .entry)) g) (now (last .exit)) (r .row)
+        (r .reached)
         (top + 1) (s .height) ⌝ }
-    ensures { λ r. ⌜ OwnSoFar (now (pattern .entry)) (s .width) (down s) (now (selves .exit)) (now (earlies .exit)) ⌝ }
+    ensures { λ r. ⌜
+        OwnSoFar (placed (now (pattern .entry)) g) (s .width) (down s) (now (selves .exit)) (now (earlies .exit)) ⌝ }
 {
     let told = RunFlag {
         row,
@@ -138,15 +148,16 @@ fn swept_flag(
     if count != symbols {
         return told;
     }
-    if !pairs_pass(text, pattern, earlier, later, s, left, top) {
+    if !pairs_pass(text, pattern, g, earlier, later, s, left, top) {
         return told;
     }
     if reached <= top * s.width {
-        return fresh_flag(text, pattern, first, s, left, last, top);
+        return fresh_flag(text, pattern, g, first, s, left, last, top);
     }
     lower_flag(
         text,
         pattern,
+        g,
         first,
         s,
         left,
@@ -203,6 +214,7 @@ fn links_serve(flags: &[u8], s: Shape, across: usize, k: usize, top: usize) -> b
 pub fn flags_to_match(
     text: &[u8],
     pattern: &[u8],
+    g: Placing,
     first: &[usize; 256],
     earlier: &[usize; 8],
     later: &[usize; 8],
@@ -215,12 +227,14 @@ pub fn flags_to_match(
     flags: &mut [u8],
 ) -> usize
     requires { ⌜
-        Ready (now text) (now pattern) symbols s (now counts) (s .rows * s .width) (length (now flags))
-        × SweepAt (now text) s (now pattern) (now first) (now selves) (now earlies) × (left < across s)
-        × AlikePairs (now pattern) (s .columns) (s .width) (now earlier) (now later) ⌝ }
+        Ready (now text) (placed (now pattern) g) symbols s (now counts) (s .rows * s .width) (length (now flags))
+        × SweepAt (now text) s (placed (now pattern) g) (now first) (now selves) (now earlies) × (left < across s)
+        × AlikePairs (placed (now pattern) g) (s .columns) (s .width) (now earlier) (now later) ⌝ }
     ensures { λ r. ⌜
-        ToMatch (now (text .entry)) (now (pattern .entry)) s left r (now (flags .entry)) (now (flags .exit)) ⌝ }
-    ensures { λ r. ⌜ OwnSoFar (now (pattern .entry)) (s .width) (down s) (now (selves .exit)) (now (earlies .exit)) ⌝ }
+        ToMatch (now (text .entry)) (placed (now (pattern .entry)) g) s left r (now (flags .entry))
+        (now (flags .exit)) ⌝ }
+    ensures { λ r. ⌜
+        OwnSoFar (placed (now (pattern .entry)) g) (s .width) (down s) (now (selves .exit)) (now (earlies .exit)) ⌝ }
 {
     let across = s.columns + 1 - s.width;
     let down = s.rows + 1 - s.height;
@@ -233,6 +247,7 @@ pub fn flags_to_match(
         let r = swept_flag(
             text,
             pattern,
+            g,
             first,
             earlier,
             later,

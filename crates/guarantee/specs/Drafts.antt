@@ -4,6 +4,7 @@
 -- those in their place the listing computes (`listing-read`), so that each draft is that one law at its numbers. Links
 -- and tallies are computed in counts (`Examples`).
 -- Assumes nothing.
+pub mod Coarse
 use mathlib.Core.Path.{_≡_, refl, sym, _∙_, ap, ap₂, fun-ext}
 use mathlib.Core.Bool.{Bool, true, false, not}
 use mathlib.Core.List.{List, [], _∷_, _++_}

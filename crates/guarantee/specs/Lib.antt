@@ -2,3 +2,4 @@ pub mod Drafts
 pub mod Demand3
 pub mod Theorems
 pub mod Corollaries
+pub mod Scaled

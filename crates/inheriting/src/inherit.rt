@@ -7,6 +7,7 @@ ghost use Rattle.matching.specs.Compare.{patternAt, windowOf, cellCount, Placed
 ghost use Rattle.sweep.specs.Sweep.{SidesOf};
 ghost use Rattle.inheriting.specs.Inheritance.{Follows, ownEnd, OwnEndsMade, OwnEndsIfMade, Above};
 use cells::windows::WindowPlace;
+use placed::placing::AS_IT_IS;
 use rows::places::first_places;
 use rows::places::no_positions;
 use sweep::own::own_ends;
@@ -33,6 +34,7 @@ fn own_end(
     first_places(pattern, &mut first);
     own_ends(
         pattern,
+        AS_IT_IS,
         height,
         width,
         height,

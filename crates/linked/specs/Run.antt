@@ -35,6 +35,7 @@ linkedAt pattern first p d a =
 
 -- what a comparison asks: the window begins at start of its strip, and is compared from position from on
 pub record CompareAt (pattern first links : List ℕ) (start from : ℕ) : Type 0 where
+  pub some : 0 < length pattern
   pub places : FirstPlaces (λ k. getD pattern k 0) (length pattern) first
   pub room : start + length pattern ≤ length links
   pub small : start + length pattern ≤ 65025
@@ -61,6 +62,7 @@ pub record OwnEnds (pattern : List ℕ) (width n : ℕ) (selves : List ℕ) : Ty
 
 -- what is asked of the window at row top
 pub record WindowAsked (pattern first selves links : List ℕ) (width row reached top : ℕ) : Type 0 where
+  pub some : 0 < length pattern
   pub places : FirstPlaces (λ k. getD pattern k 0) (length pattern) first
   pub owns : OwnEnds pattern width (top + 1) selves
   pub room : top * width + length pattern ≤ length links

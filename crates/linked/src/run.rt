@@ -5,7 +5,10 @@ ghost use lib.Dec.{ltb};
 ghost use lib.ListN.{length};
 ghost use Rattle.theory.specs.Test.{pick};
 ghost use Rattle.linked.specs.Run.{linkedAt, CompareAt, EndsBy, WindowAsked, WindowEnds, WindowFlagged};
-use rows::places::pattern_at;
+ghost use Rattle.placed.specs.Placing.{placed};
+use placed::placing::Placing;
+use placed::placing::pattern_at;
+use placed::placing::pattern_cells;
 
 // Where a run down a strip stands behind a window: the last window that was compared begins at row, and agrees up to
 // place reached of the strip. And the position at which a mismatch of the window ends first, or the pattern's length.
@@ -25,15 +28,15 @@ pub struct RunFlag {
 // Whether no mismatch ends at position p, where none ends before it: a is the pattern's symbol there, and d the link of
 // the window's place. A link that leads out of the window, like no link, 0, says that the window's symbol is new there:
 // then the pattern's has to be.
-fn linked_at(pattern: &[u8], first: &[usize; 256], p: usize, d: usize, a: u8) -> bool
-    requires { ⌜ (length (now first) ≡ 256) × (p < length (now pattern)) ⌝ }
-    ensures { λ r. ⌜ r ≡ linkedAt (now (pattern .entry)) (now (first .entry)) p d a ⌝ }
+fn linked_at(pattern: &[u8], g: Placing, first: &[usize; 256], p: usize, d: usize, a: u8) -> bool
+    requires { ⌜ (length (now first) ≡ 256) × (p < length (placed (now pattern) g)) ⌝ }
+    ensures { λ r. ⌜ r ≡ linkedAt (placed (now (pattern .entry)) g) (now (first .entry)) p d a ⌝ }
 {
     if p < d {
         return first[a as usize] == p;
     }
     if 0 < d {
-        return pattern_at(pattern, p - d) == a;
+        return pattern_at(pattern, g, p - d) == a;
     }
     first[a as usize] == p
 }
@@ -42,18 +45,20 @@ fn linked_at(pattern: &[u8], first: &[usize; 256], p: usize, d: usize, a: u8) ->
 // begins at place start of the strip.
 fn linked_end(
     pattern: &[u8],
+    g: Placing,
     first: &[usize; 256],
     links: &[u16],
     start: usize,
     from: usize,
 ) -> usize
-    requires { ⌜ CompareAt (now pattern) (now first) (now links) start from ⌝ }
-    ensures { λ r. ⌜ EndsBy (now (pattern .entry)) (now (links .entry)) start from r ⌝ }
+    requires { ⌜ CompareAt (placed (now pattern) g) (now first) (now links) start from ⌝ }
+    ensures { λ r. ⌜ EndsBy (placed (now (pattern .entry)) g) (now (links .entry)) start from r ⌝ }
 {
+    let n = pattern_cells(pattern, g);
     let mut p = from;
-    while p < pattern.len() {
-        let a = pattern_at(pattern, p);
-        if !linked_at(pattern, first, p, links[start + p] as usize, a) {
+    while p < n {
+        let a = pattern_at(pattern, g, p);
+        if !linked_at(pattern, g, first, p, links[start + p] as usize, a) {
             return p;
         }
         p += 1;
@@ -65,6 +70,7 @@ fn linked_end(
 // pattern's own where that lies in what agreed, and else what agreed of that one agrees of this one too.
 fn next_linked(
     pattern: &[u8],
+    g: Placing,
     first: &[usize; 256],
     selves: &[usize; 256],
     links: &[u16],
@@ -73,12 +79,12 @@ fn next_linked(
     reached: usize,
     top: usize,
 ) -> Run
-    requires { ⌜ WindowAsked (now pattern) (now first) (now selves) (now links) width row reached top ⌝ }
-    ensures { λ r. ⌜ WindowEnds (now (pattern .entry)) (now (links .entry)) width row reached top r ⌝ }
+    requires { ⌜ WindowAsked (placed (now pattern) g) (now first) (now selves) (now links) width row reached top ⌝ }
+    ensures { λ r. ⌜ WindowEnds (placed (now (pattern .entry)) g) (now (links .entry)) width row reached top r ⌝ }
 {
     let start = top * width;
     if reached <= start {
-        let end = linked_end(pattern, first, links, start, 0);
+        let end = linked_end(pattern, g, first, links, start, 0);
         return Run {
             row: top,
             reached: start + end,
@@ -93,7 +99,7 @@ fn next_linked(
             end: own,
         };
     }
-    let end = linked_end(pattern, first, links, start, reached - start);
+    let end = linked_end(pattern, g, first, links, start, reached - start);
     Run {
         row: top,
         reached: start + end,
@@ -114,6 +120,7 @@ pub fn flag_by(end: usize, n: usize) -> u8
 // The flag of the window at row top. Sizes first: a window of another count is 0, and nothing else of it is looked at.
 pub fn next_flag(
     pattern: &[u8],
+    g: Placing,
     first: &[usize; 256],
     selves: &[usize; 256],
     symbols: u16,
@@ -124,9 +131,9 @@ pub fn next_flag(
     reached: usize,
     top: usize,
 ) -> RunFlag
-    requires { ⌜ WindowAsked (now pattern) (now first) (now selves) (now links) width row reached top ⌝ }
+    requires { ⌜ WindowAsked (placed (now pattern) g) (now first) (now selves) (now links) width row reached top ⌝ }
     ensures { λ r. ⌜
-        WindowFlagged (now (pattern .entry)) symbols count (now (links .entry)) width row reached top r ⌝ }
+        WindowFlagged (placed (now (pattern .entry)) g) symbols count (now (links .entry)) width row reached top r ⌝ }
 {
     if count != symbols {
         return RunFlag {
@@ -135,10 +142,10 @@ pub fn next_flag(
             flag: 0,
         };
     }
-    let r = next_linked(pattern, first, selves, links, width, row, reached, top);
+    let r = next_linked(pattern, g, first, selves, links, width, row, reached, top);
     RunFlag {
         row: r.row,
         reached: r.reached,
-        flag: flag_by(r.end, pattern.len()),
+        flag: flag_by(r.end, pattern_cells(pattern, g)),
     }
 }

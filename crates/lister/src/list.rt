@@ -15,6 +15,9 @@ ghost use Rattle.flags.specs.Flags.{flagsTrue};
 ghost use Rattle.entries.specs.Listing.{searchListing};
 ghost use Rattle.searched.specs.Search.{listedSaid, listDone, listOf};
 ghost use Rattle.lister.specs.Steps.{Trusted};
+ghost use Rattle.placed.specs.Placing.{placed};
+use placed::placing::AS_IT_IS;
+use placed::placing::Placing;
 use refusals::refusals::Outcome;
 use refusals::refusals::Reason;
 use refusals::refusals::Refusal;
@@ -37,6 +40,7 @@ use writer::writing::write_listing;
 pub fn list_flagged(
     text: &[u8],
     pattern: &[u8],
+    g: Placing,
     s: Shape,
     listed: &[u8],
     first: &[usize; 256],
@@ -48,15 +52,16 @@ pub fn list_flagged(
     listing: &mut [u8],
 ) -> Searched
     requires { ⌜
-        Trusted (now text) (now pattern) s judged (now flags) totals × (now listed ≡ symbolsOf (now pattern))
-        × FirstPlaces (patternAt (now pattern)) (length (now pattern)) (now first)
-        × OwnSoFar (now pattern) (s .width) (down s) (now selves) (now earlies) ⌝ }
+        Trusted (now text) (placed (now pattern) g) s judged (now flags) totals
+        × (now listed ≡ symbolsOf (placed (now pattern) g))
+        × FirstPlaces (patternAt (placed (now pattern) g)) (length (placed (now pattern) g)) (now first)
+        × OwnSoFar (placed (now pattern) g) (s .width) (down s) (now selves) (now earlies) ⌝ }
     ensures { λ r. ⌜
         listDone r (now (listing .exit))
         ≡ filledBy
         (outcomeSaid judged
-        then listedSaid (asked (now (text .entry)) (now (pattern .entry)) s) (length (now (listing .entry))))
-        (searchListing (asked (now (text .entry)) (now (pattern .entry)) s)) (now (listing .entry)) ⌝ }
+        then listedSaid (asked (now (text .entry)) (placed (now (pattern .entry)) g) s) (length (now (listing .entry))))
+        (searchListing (asked (now (text .entry)) (placed (now (pattern .entry)) g) s)) (now (listing .entry)) ⌝ }
 {
     let found = totals.found;
     let refused = totals.refused;
@@ -69,6 +74,7 @@ pub fn list_flagged(
             write_listing(
                 text,
                 pattern,
+                g,
                 s,
                 listed,
                 &places,
@@ -106,7 +112,7 @@ fn truth_outcome(
         ≡ check (flagsTrue (asked (now (text .entry)) (now (pattern .entry)) s) (now (flags .entry))) 16 ⌝ }
     ensures { λ r. ⌜ OwnSoFar (now (pattern .entry)) (s .width) (down s) (now (selves .exit)) (now (earlies .exit)) ⌝ }
 {
-    if flags_true(text, pattern, s, first, selves, earlies, flags) {
+    if flags_true(text, pattern, AS_IT_IS, s, first, selves, earlies, flags) {
         return Outcome::Accepted;
     }
     Outcome::Refused(Refusal::Plain(Reason::FlagsFalse))
@@ -128,15 +134,16 @@ fn list_posed(text: &[u8], pattern: &[u8], s: Shape, flags: &[u8], listing: &mut
     let n = (s.rows + 1 - s.height) * (s.columns + 1 - s.width);
     let mut first = no_positions();
     let mut listed = no_symbols();
-    let symbols = read_pattern(pattern, &mut first, &mut listed);
+    let symbols = read_pattern(pattern, AS_IT_IS, &mut first, &mut listed);
     let mut selves = no_positions();
     let mut earlies = no_positions();
     let judged = truth_outcome(text, pattern, s, &first, &mut selves, &mut earlies, flags);
-    let totals = totals_of(pattern, symbols, flags, n);
+    let totals = totals_of(pattern, AS_IT_IS, symbols, flags, n);
     let d = symbols as usize;
     list_flagged(
         text,
         pattern,
+        AS_IT_IS,
         s,
         &listed[..d],
         &first,

@@ -11,8 +11,10 @@ ghost use Rattle.sweep.specs.Sweep.{SweepAt, OwnSoFar};
 ghost use Rattle.listing.specs.Entries.Put.{Heads, Puts, startOf};
 ghost use Rattle.passes.specs.Windows.{Flagged};
 ghost use Rattle.passes.specs.Strips.{pieceOf, RefusedHere, RefusedIn};
+ghost use Rattle.placed.specs.Placing.{placed};
 use entries::entries::strip_window;
 use entries::entries::write_refused;
+use placed::placing::Placing;
 use rows::places::no_positions;
 use shapes::shapes::Shape;
 use sweep::windows::window_end;
@@ -23,6 +25,7 @@ use sweep::windows::window_end;
 fn write_strip(
     text: &[u8],
     pattern: &[u8],
+    g: Placing,
     s: Shape,
     left: usize,
     flags: &[u8],
@@ -34,18 +37,19 @@ fn write_strip(
     listing: &mut [u8],
 )
     requires { ⌜
-        Flagged (now text) (now pattern) s (now flags)
-        × SweepAt (now text) s (now pattern) (now first) (now selves) (now earlies) × (left < across s)
-        × (size ≡ 3 + 3 * length (symbolsOf (now pattern)))
-        × Heads (pieceOf (now text) (now pattern) s) (across s) (down s) left (now heads)
-        × (startOf (pieceOf (now text) (now pattern) s) (down s * across s) ≤ length (now listing)) ⌝ }
+        Flagged (now text) (placed (now pattern) g) s (now flags)
+        × SweepAt (now text) s (placed (now pattern) g) (now first) (now selves) (now earlies) × (left < across s)
+        × (size ≡ 3 + 3 * length (symbolsOf (placed (now pattern) g)))
+        × Heads (pieceOf (now text) (placed (now pattern) g) s) (across s) (down s) left (now heads)
+        × (startOf (pieceOf (now text) (placed (now pattern) g) s) (down s * across s) ≤ length (now listing)) ⌝ }
     ensures { λ r. ⌜
-        Heads (pieceOf (now (text .entry)) (now (pattern .entry)) s) (across s) (down s) (left + 1)
+        Heads (pieceOf (now (text .entry)) (placed (now (pattern .entry)) g) s) (across s) (down s) (left + 1)
         (now (heads .exit)) ⌝ }
     ensures { λ r. ⌜
-        Puts (pieceOf (now (text .entry)) (now (pattern .entry)) s) (down s * across s)
+        Puts (pieceOf (now (text .entry)) (placed (now (pattern .entry)) g) s) (down s * across s)
         (RefusedHere (now (flags .entry)) (across s) left (down s)) (now (listing .entry)) (now (listing .exit)) ⌝ }
-    ensures { λ r. ⌜ OwnSoFar (now (pattern .entry)) (s .width) (down s) (now (selves .exit)) (now (earlies .exit)) ⌝ }
+    ensures { λ r. ⌜
+        OwnSoFar (placed (now (pattern .entry)) g) (s .width) (down s) (now (selves .exit)) (now (earlies .exit)) ⌝ }
 {
     let wide = s.columns + 1 - s.width;
     let tall = s.rows + 1 - s.height;
@@ -63,6 +67,7 @@ fn write_strip(
         let r = window_end(
             text,
             pattern,
+            g,
             s,
             left,
             first,
@@ -74,7 +79,7 @@ fn write_strip(
             top,
         );
         let v = strip_window(s, left, top);
-        heads[top] = write_refused(text, v, pattern, r.end, r.earlier, listing, at);
+        heads[top] = write_refused(text, v, pattern, g, r.end, r.earlier, listing, at);
         row = r.row;
         reached = r.reached;
         top += 1;
@@ -86,6 +91,7 @@ fn write_strip(
 pub fn write_strips(
     text: &[u8],
     pattern: &[u8],
+    g: Placing,
     s: Shape,
     flags: &[u8],
     size: usize,
@@ -96,13 +102,14 @@ pub fn write_strips(
     listing: &mut [u8],
 )
     requires { ⌜
-        Flagged (now text) (now pattern) s (now flags) × (size ≡ 3 + 3 * length (symbolsOf (now pattern)))
-        × FirstPlaces (patternAt (now pattern)) (length (now pattern)) (now first)
-        × OwnSoFar (now pattern) (s .width) (down s) (now selves) (now earlies)
-        × Heads (pieceOf (now text) (now pattern) s) (across s) (down s) 0 (now heads)
-        × (startOf (pieceOf (now text) (now pattern) s) (down s * across s) ≤ length (now listing)) ⌝ }
+        Flagged (now text) (placed (now pattern) g) s (now flags) × (size ≡ 3 + 3 *
+        length (symbolsOf (placed (now pattern) g)))
+        × FirstPlaces (patternAt (placed (now pattern) g)) (length (placed (now pattern) g)) (now first)
+        × OwnSoFar (placed (now pattern) g) (s .width) (down s) (now selves) (now earlies)
+        × Heads (pieceOf (now text) (placed (now pattern) g) s) (across s) (down s) 0 (now heads)
+        × (startOf (pieceOf (now text) (placed (now pattern) g) s) (down s * across s) ≤ length (now listing)) ⌝ }
     ensures { λ r. ⌜
-        Puts (pieceOf (now (text .entry)) (now (pattern .entry)) s) (down s * across s)
+        Puts (pieceOf (now (text .entry)) (placed (now (pattern .entry)) g) s) (down s * across s)
         (RefusedIn (now (flags .entry)) (across s) (down s) (across s)) (now (listing .entry))
         (now (listing .exit)) ⌝ }
 {
@@ -112,6 +119,7 @@ pub fn write_strips(
         write_strip(
             text,
             pattern,
+            g,
             s,
             left,
             flags,

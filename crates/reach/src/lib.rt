@@ -1,2 +1,3 @@
 // How far one window of a strip agrees with a pattern, row by row.
+pub mod laid;
 pub mod reach;

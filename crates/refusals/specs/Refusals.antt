@@ -1,5 +1,5 @@
--- Document 01, 'Refused by number', with the number that R-1 of document 02 adds, 16: the number of each refusal and
--- what it returns besides.
+-- Document 01, 'Refused by number', with the numbers that R-1 and R-2 of document 02 add, 16 and 17: the number of each
+-- refusal and what it returns besides.
 -- Assumes nothing.
 pub mod Laws
 use Prim.Native.Nat.{ℕ}
@@ -10,11 +10,11 @@ use Rattle.refusals.specs.declared.refusals.Reason.the-variants.{SizesMi
 use Rattle.refusals.specs.declared.refusals.Reason.the-variants.{CornerOutside, TooManyCells, LinksBufferShort}
 use Rattle.refusals.specs.declared.refusals.Reason.the-variants.{WindowBufferShort, HasOtherImage}
 use Rattle.refusals.specs.declared.refusals.Reason.the-variants.{HasOtherPreimage}
-use Rattle.refusals.specs.declared.refusals.Reason.the-variants.{ColumnsDisagree, FlagsFalse}
+use Rattle.refusals.specs.declared.refusals.Reason.the-variants.{ColumnsDisagree, FlagsFalse, ScaleUnfit}
 use Rattle.refusals.specs.declared.refusals.Refusal.the-variants.{Plain, ListingForm, ListingFalse}
 use Rattle.refusals.specs.declared.refusals.Refusal.the-variants.{ListingBufferShort, CursorSpent}
 
--- the number of a reason: 1 to 15 are document 01's, 16 is document 02's
+-- the number of a reason: 1 to 15 are document 01's, 16 and 17 are document 02's
 abbrev pub reasonNumber : Reason → ℕ
 reasonNumber SizesMissing = 1
 reasonNumber SideRange = 2
@@ -28,6 +28,7 @@ reasonNumber HasOtherImage = 12
 reasonNumber HasOtherPreimage = 13
 reasonNumber ColumnsDisagree = 14
 reasonNumber FlagsFalse = 16
+reasonNumber ScaleUnfit = 17
 
 -- the same of a refusal
 abbrev pub numberOf : Refusal → ℕ

@@ -30,6 +30,8 @@ pub enum Reason {
     ColumnsDisagree,
     // flags that differ from the truth for some window
     FlagsFalse,
+    // the scale is 0, or the pattern enlarged by it taller or wider than the text
+    ScaleUnfit,
 }
 
 // By what an input, or a state, is refused.
@@ -69,6 +71,7 @@ pub fn reason_number(why: Reason) -> u8
         Reason::HasOtherPreimage => 13,
         Reason::ColumnsDisagree => 14,
         Reason::FlagsFalse => 16,
+        Reason::ScaleUnfit => 17,
     }
 }
 

@@ -4,7 +4,7 @@ pub mod Laws
 use mathlib.Core.Path.{_≡_}
 use mathlib.Core.List.{List}
 use Prim.Native.Nat.{ℕ, _+_, _≤_, _<_}
-use lib.ListN.{length, getD}
+use lib.ListN.{length, getD, take, drop}
 use Rattle.prefixes.specs.Prefixes.{suffix}
 use Rattle.prefixes.specs.State.{FirstPlaces, Swept}
 use mathlib.Core.Bool.{true}
@@ -18,6 +18,10 @@ pub record PartAt (pattern row first last : List ℕ) (start from : ℕ) : Type 
   pub older : Older (start + from + 1) last
   pub inside : from + length row ≤ length pattern
   pub small : start + from + length row ≤ 65025
+
+-- n cells of the pattern from a place on, where it is its own text
+abbrev pub ownPart : List ℕ → ℕ → ℕ → List ℕ
+ownPart pattern at n = take n (drop at pattern)
 
 -- the part lies in the strip t, and the window agrees so far
 pub record PartMeets (t : ℕ → ℕ) (pattern row last : List ℕ) (start from : ℕ) : Type 0 where

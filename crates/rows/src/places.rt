@@ -4,10 +4,8 @@ ghost use Prim.Native.Nat.{_<_};
 ghost use lib.ListN.{length, getD, replicate};
 ghost use Rattle.prefixes.specs.State.{FirstPlaces};
 
-// The pattern's symbol at a position. What the search compares of the pattern it reads here; only what is made of the
-// pattern alone goes through the cells themselves: first places, their set, pairs of cells alike, and own ends, for
-// which the pattern is a text.
-pub fn pattern_at(pattern: &[u8], p: usize) -> u8
+// The symbol at a position of a pattern as it is.
+pub fn plain_at(pattern: &[u8], p: usize) -> u8
     requires { ⌜ p < length (now pattern) ⌝ }
     ensures { λ r. ⌜ r ≡ getD (now (pattern .entry)) p 0 ⌝ }
 {

@@ -1,10 +1,10 @@
-// One part of a row of a window against the pattern.
+// One part of a row of a window against a pattern as it is.
 ghost use mathlib.Core.Path.{_≡_};
 ghost use Prim.Native.Nat.{_+_, _-_, _≤_, _<_};
 ghost use lib.ListN.{length};
 ghost use Rattle.prefixes.specs.State.{agreesAt, earlierBy};
 ghost use Rattle.rows.specs.Rows.{PartAt, EndsPart};
-use crate::places::pattern_at;
+use crate::places::plain_at;
 
 // Whether no mismatch ends at position p, where none ends before it: a is the pattern's symbol there, and near one more
 // than the last place of the window's symbol in the strip, which counts only past start, where the window begins.
@@ -20,7 +20,7 @@ fn agrees_at(
     ensures { λ r. ⌜ r ≡ agreesAt (now (pattern .entry)) (now (first .entry)) start near p a ⌝ }
 {
     if start < near {
-        return pattern_at(pattern, near - 1 - start) == a;
+        return plain_at(pattern, near - 1 - start) == a;
     }
     first[a as usize] == p
 }
@@ -43,7 +43,7 @@ pub fn part_end(
     let mut j = 0;
     while j < row.len() {
         let x = row[j] as usize;
-        let a = pattern_at(pattern, from + j);
+        let a = plain_at(pattern, from + j);
         if !agrees_at(pattern, first, start, last[x], from + j, a) {
             return j;
         }
@@ -66,11 +66,11 @@ pub fn earlier_by(
         (length (now first) ≡ 256) × (near ≤ start + length (now pattern)) × (p < length (now pattern)) ⌝ }
     ensures { λ r. ⌜ r ≡ earlierBy (now (pattern .entry)) (now (first .entry)) start near p ⌝ }
 {
-    let a = first[pattern_at(pattern, p) as usize];
+    let a = first[plain_at(pattern, p) as usize];
     if near <= start {
         return a;
     }
-    let b = first[pattern_at(pattern, near - 1 - start) as usize];
+    let b = first[plain_at(pattern, near - 1 - start) as usize];
     if a < b {
         return a;
     }

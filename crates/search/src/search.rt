@@ -6,8 +6,11 @@ ghost use Rattle.shapes.specs.Questions.{ask, asked};
 ghost use lib.ListN.{length};
 ghost use Rattle.flags.specs.Flags.{RoomFor, rooms};
 ghost use Rattle.searched.specs.Search.{done, lend, listedOf, searchOf};
+ghost use Rattle.placed.specs.Placing.{placed};
 use counting::count::count_flagged;
 use lister::list::list_flagged;
+use placed::placing::AS_IT_IS;
+use placed::placing::Placing;
 use refusals::refusals::Outcome;
 use rooms::rooms::room_outcome;
 use rows::places::no_positions;
@@ -19,9 +22,10 @@ use totals::pattern::read_pattern;
 // The search where nothing but the listing's room is left to ask: what Count does, and then what List does once it
 // knows that the flags are the truth, which those just made are. What the pattern says by itself is lent to both, so
 // that neither makes again what the other made.
-fn search_windows(
+pub fn search_windows(
     text: &[u8],
     pattern: &[u8],
+    g: Placing,
     s: Shape,
     links: &mut [u16],
     counts: &mut [u16],
@@ -29,21 +33,22 @@ fn search_windows(
     listing: &mut [u8],
 ) -> Searched
     requires { ⌜
-        RoomFor (asked (now text) (now pattern) s)
+        RoomFor (asked (now text) (placed (now pattern) g) s)
         (rooms (length (now links)) (length (now counts)) (length (now flags))) ⌝ }
     ensures { λ r. ⌜
         done r (lend (now (links .exit)) (now (counts .exit)) (now (flags .exit)) (now (listing .exit)))
-        ≡ listedOf (asked (now (text .entry)) (now (pattern .entry)) s)
+        ≡ listedOf (asked (now (text .entry)) (placed (now (pattern .entry)) g) s)
         (lend (now (links .entry)) (now (counts .entry)) (now (flags .entry)) (now (listing .entry))) ⌝ }
 {
     let mut first = no_positions();
     let mut listed = no_symbols();
-    let symbols = read_pattern(pattern, &mut first, &mut listed);
+    let symbols = read_pattern(pattern, g, &mut first, &mut listed);
     let mut selves = no_positions();
     let mut earlies = no_positions();
     let totals = count_flagged(
         text,
         pattern,
+        g,
         s,
         symbols,
         &first,
@@ -57,6 +62,7 @@ fn search_windows(
     list_flagged(
         text,
         pattern,
+        g,
         s,
         &listed[..d],
         &first,
@@ -99,6 +105,15 @@ pub fn search(
     let outcome = room_outcome(text, pattern, s, links.len(), counts.len(), flags.len());
     match outcome {
         Outcome::Refused(why) => Searched::Refused(why),
-        Outcome::Accepted => search_windows(text, pattern, s, links, counts, flags, listing),
+        Outcome::Accepted => search_windows(
+            text,
+            pattern,
+            AS_IT_IS,
+            s,
+            links,
+            counts,
+            flags,
+            listing,
+        ),
     }
 }

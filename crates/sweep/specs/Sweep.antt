@@ -12,6 +12,7 @@
 -- Assumes nothing.
 pub mod Steps
 pub mod Own
+pub mod OwnParts
 pub mod Runs
 use mathlib.Core.Path.{_≡_}
 use mathlib.Core.List.{List}
@@ -83,6 +84,10 @@ pub record NextIs (text : List ℕ) (s : Strip) (pattern : List ℕ) (row top he
   pub end : EndIs (λ k. getD pattern k 0) (suffix (stripSymbols text s) (top * s .width)) (height * s .width) (r .end)
       (r .earlier)
 
+-- the pattern as a strip
+abbrev pub ownStrip : ℕ → ℕ → Strip
+ownStrip height width = record { rows = height; columns = width; left = 0; width = width }
+
 -- the sides of a pattern
 pub record SidesOf (pattern : List ℕ) (height width : ℕ) : Type 0 where
   pub cells : length pattern ≡ height * width
@@ -106,6 +111,17 @@ pub record OwnSoFar (pattern : List ℕ) (width n : ℕ) (selves earlies : List 
   pub within : getD selves 0 0 ≤ length pattern
   pub each : (k : ℕ) → k < n → k * width < getD selves 0 0
       → OwnEndIs pattern (getD selves 0 0) (k * width) (getD selves k 0) (getD earlies k 0)
+
+-- what is asked of the pattern's own window from row top to before row rows, which agrees up to place at: the pattern
+-- is a strip of its own width
+pub record OwnAt (pattern first last : List ℕ) (height width rows top at : ℕ) : Type 0 where
+  pub sides : SidesOf pattern height width
+  pub some : 1 ≤ rows
+  pub rows-le : rows ≤ height
+  pub top-le : top ≤ rows
+  pub places : FirstPlaces (λ k. getD pattern k 0) (length pattern) first
+  pub within : at ≤ rows * width
+  pub swept : Swept (λ k. getD pattern k 0) (λ k. getD pattern k 0) (top * width) at last
 
 -- how many of them a strip of so many windows asks for
 unfoldable pub ownRows : ℕ → ℕ → ℕ

@@ -2,8 +2,10 @@
 ghost use Prim.Native.Nat.{_-_, _*_, _≤_, _<_};
 ghost use Rattle.reach.specs.Reach.{ReachAt};
 ghost use Rattle.sweep.specs.Sweep.{NextAt, NextIs};
+ghost use Rattle.placed.specs.Placing.{placed};
 use grid::strips::Strip;
-use reach::reach::reach;
+use placed::placing::Placing;
+use reach::laid::placed_reach;
 
 // Where a run down a strip stands behind a window: the last window that was compared begins at row, and agrees up to
 // place reached of the strip. And the window's first end, with the first position that mismatches with it, or 0 where
@@ -20,6 +22,7 @@ pub fn compared(
     text: &[u8],
     s: Strip,
     pattern: &[u8],
+    g: Placing,
     first: &[usize; 256],
     last: &mut [usize; 256],
     top: usize,
@@ -28,10 +31,12 @@ pub fn compared(
     j: usize,
 ) -> Step
     requires { ⌜
-        ReachAt (now text) s (now pattern) (now first) (now last) top height line j × (top * s .width ≤ 65025) ⌝ }
-    ensures { λ r. ⌜ NextIs (now (text .entry)) s (now (pattern .entry)) top top height r (now (last .exit)) ⌝ }
+        ReachAt (now text) s (placed (now pattern) g) (now first) (now last) top height line j
+        × (top * s .width ≤ 65025) ⌝ }
+    ensures { λ r. ⌜
+        NextIs (now (text .entry)) s (placed (now (pattern .entry)) g) top top height r (now (last .exit)) ⌝ }
 {
-    let r = reach(text, s, pattern, first, last, top, height, line, j);
+    let r = placed_reach(text, s, pattern, g, first, last, top, height, line, j);
     let place = r.place;
     Step {
         row: top,
@@ -47,6 +52,7 @@ pub fn next_end(
     text: &[u8],
     s: Strip,
     pattern: &[u8],
+    g: Placing,
     first: &[usize; 256],
     last: &mut [usize; 256],
     selves: &[usize; 256],
@@ -57,13 +63,15 @@ pub fn next_end(
     height: usize,
 ) -> Step
     requires { ⌜
-        NextAt (now text) s (now pattern) (now first) (now last) (now selves) (now earlies) row reached top height ⌝ }
-    ensures { λ r. ⌜ NextIs (now (text .entry)) s (now (pattern .entry)) row top height r (now (last .exit)) ⌝ }
+        NextAt (now text) s (placed (now pattern) g) (now first) (now last) (now selves) (now earlies) row reached top
+        height ⌝ }
+    ensures { λ r. ⌜
+        NextIs (now (text .entry)) s (placed (now (pattern .entry)) g) row top height r (now (last .exit)) ⌝ }
 {
     let width = s.width;
     let start = top * width;
     if reached <= start {
-        return compared(text, s, pattern, first, last, top, height, top, 0);
+        return compared(text, s, pattern, g, first, last, top, height, top, 0);
     }
     let k = top - row;
     let end = selves[k];
@@ -79,6 +87,7 @@ pub fn next_end(
         text,
         s,
         pattern,
+        g,
         first,
         last,
         top,

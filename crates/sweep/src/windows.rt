@@ -3,16 +3,19 @@ ghost use Prim.Native.Nat.{_+_, _-_, _*_, _≤_, _<_};
 ghost use lib.ListN.{length, getD};
 ghost use Rattle.shapes.specs.Shapes.{across, down};
 ghost use Rattle.sweep.specs.Sweep.{RunAt, NextIs, OwnSoFar, PatternAt, SweepAt, columnStrip};
+ghost use Rattle.placed.specs.Placing.{placed};
 use crate::own::lengthen_ends;
 use crate::steps::Step;
 use crate::steps::compared;
 use crate::steps::next_end;
 use grid::strips::Strip;
+use placed::placing::Placing;
 use shapes::shapes::Shape;
 
 // The own ends are made as far as the last window compared, at row, agrees: up to place reached of the strip.
 pub fn ready_ends(
     pattern: &[u8],
+    g: Placing,
     s: Shape,
     first: &[usize; 256],
     selves: &mut [usize; 256],
@@ -21,9 +24,11 @@ pub fn ready_ends(
     reached: usize,
 )
     requires { ⌜
-        PatternAt s (now pattern) (now first) (now selves) (now earlies) × (row ≤ 255) × (row * s .width ≤ reached)
-        × (reached ≤ row * s .width + length (now pattern)) ⌝ }
-    ensures { λ r. ⌜ OwnSoFar (now (pattern .entry)) (s .width) (down s) (now (selves .exit)) (now (earlies .exit)) ⌝ }
+        PatternAt s (placed (now pattern) g) (now first) (now selves) (now earlies) × (row ≤ 255)
+        × (row * s .width ≤ reached)
+        × (reached ≤ row * s .width + length (placed (now pattern) g)) ⌝ }
+    ensures { λ r. ⌜
+        OwnSoFar (placed (now (pattern .entry)) g) (s .width) (down s) (now (selves .exit)) (now (earlies .exit)) ⌝ }
     ensures { λ r. ⌜ reached - row * s .width ≤ getD (now (selves .exit)) 0 0 ⌝ }
 {
     let agreed = reached - row * s.width;
@@ -33,6 +38,7 @@ pub fn ready_ends(
     let windows = s.rows + 1 - s.height;
     lengthen_ends(
         pattern,
+        g,
         s.height,
         s.width,
         windows,
@@ -48,6 +54,7 @@ pub fn ready_ends(
 pub fn window_end(
     text: &[u8],
     pattern: &[u8],
+    g: Placing,
     s: Shape,
     left: usize,
     first: &[usize; 256],
@@ -59,13 +66,14 @@ pub fn window_end(
     top: usize,
 ) -> Step
     requires { ⌜
-        SweepAt (now text) s (now pattern) (now first) (now selves) (now earlies) × (left < across s)
+        SweepAt (now text) s (placed (now pattern) g) (now first) (now selves) (now earlies) × (left < across s)
         × (top < down s)
-        × RunAt (now text) (columnStrip s left) (now pattern) (now last) row reached top (s .height) ⌝ }
+        × RunAt (now text) (columnStrip s left) (placed (now pattern) g) (now last) row reached top (s .height) ⌝ }
     ensures { λ r. ⌜
-        NextIs (now (text .entry)) (columnStrip s left) (now (pattern .entry)) row top (s .height) r
+        NextIs (now (text .entry)) (columnStrip s left) (placed (now (pattern .entry)) g) row top (s .height) r
         (now (last .exit)) ⌝ }
-    ensures { λ r. ⌜ OwnSoFar (now (pattern .entry)) (s .width) (down s) (now (selves .exit)) (now (earlies .exit)) ⌝ }
+    ensures { λ r. ⌜
+        OwnSoFar (placed (now (pattern .entry)) g) (s .width) (down s) (now (selves .exit)) (now (earlies .exit)) ⌝ }
 {
     let t = Strip {
         rows: s.rows,
@@ -74,13 +82,14 @@ pub fn window_end(
         width: s.width,
     };
     if reached <= top * s.width {
-        return compared(text, t, pattern, first, last, top, s.height, top, 0);
+        return compared(text, t, pattern, g, first, last, top, s.height, top, 0);
     }
-    ready_ends(pattern, s, first, selves, earlies, row, reached);
+    ready_ends(pattern, g, s, first, selves, earlies, row, reached);
     next_end(
         text,
         t,
         pattern,
+        g,
         first,
         last,
         selves,

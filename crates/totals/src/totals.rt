@@ -5,6 +5,8 @@ ghost use lib.ListN.{length};
 ghost use Rattle.occurrences.specs.Distinct.{distinct};
 ghost use Rattle.entries.specs.Listing.{listingLength};
 ghost use Rattle.entries.specs.Listing.Totals.{ones, others};
+ghost use Rattle.placed.specs.Placing.{placed};
+use placed::placing::Placing;
 
 // The windows found and refused, and the length of their listing.
 pub struct Totals {
@@ -31,11 +33,11 @@ fn count_found(flags: &[u8], n: usize) -> u16
 
 // The totals of n windows with these flags. The caller has the number of the pattern's symbols, so it is not found a
 // second time here.
-pub fn totals_of(pattern: &[u8], symbols: u16, flags: &[u8], n: usize) -> Totals
-    requires { ⌜ (symbols ≡ distinct (now pattern)) × (n ≤ 65025) × (n ≤ length (now flags)) ⌝ }
+pub fn totals_of(pattern: &[u8], g: Placing, symbols: u16, flags: &[u8], n: usize) -> Totals
+    requires { ⌜ (symbols ≡ distinct (placed (now pattern) g)) × (n ≤ 65025) × (n ≤ length (now flags)) ⌝ }
     ensures { λ r. ⌜ r .found ≡ ones (now (flags .entry)) n ⌝ }
     ensures { λ r. ⌜ r .refused ≡ others (now (flags .entry)) n ⌝ }
-    ensures { λ r. ⌜ r .length ≡ listingLength (r .found) (r .refused) (distinct (now (pattern .entry))) ⌝ }
+    ensures { λ r. ⌜ r .length ≡ listingLength (r .found) (r .refused) (distinct (placed (now (pattern .entry)) g)) ⌝ }
 {
     let d = symbols as usize;
     let found = count_found(flags, n);

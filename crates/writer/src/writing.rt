@@ -12,11 +12,13 @@ ghost use Rattle.sets.specs.Symbols.{symbolsOf};
 ghost use Rattle.matching.specs.Compare.{patternAt};
 ghost use Rattle.entries.specs.Listing.{searchListing, foundIn, refusedIn};
 ghost use Rattle.passes.specs.Windows.{Flagged, windowBytes};
+ghost use Rattle.placed.specs.Placing.{placed};
 use entries::offsets::list_offsets;
 use listing::records::Record;
 use listing::records::write_record;
 use passes::found::write_rows;
 use passes::strips::write_strips;
+use placed::placing::Placing;
 use rows::places::no_positions;
 use shapes::shapes::Shape;
 
@@ -25,6 +27,7 @@ use shapes::shapes::Shape;
 fn write_windows(
     text: &[u8],
     pattern: &[u8],
+    g: Placing,
     s: Shape,
     listed: &[u8],
     first: &[usize; 256],
@@ -34,21 +37,22 @@ fn write_windows(
     listing: &mut [u8],
 ) -> usize
     requires { ⌜
-        Flagged (now text) (now pattern) s (now flags) × (now listed ≡ symbolsOf (now pattern))
-        × FirstPlaces (patternAt (now pattern)) (length (now pattern)) (now first)
-        × OwnSoFar (now pattern) (s .width) (down s) (now selves) (now earlies)
-        × (length (windowBytes (now text) (now pattern) s) ≤ length (now listing)) ⌝ }
-    ensures { λ r. ⌜ r ≡ length (windowBytes (now (text .entry)) (now (pattern .entry)) s) ⌝ }
+        Flagged (now text) (placed (now pattern) g) s (now flags) × (now listed ≡ symbolsOf (placed (now pattern) g))
+        × FirstPlaces (patternAt (placed (now pattern) g)) (length (placed (now pattern) g)) (now first)
+        × OwnSoFar (placed (now pattern) g) (s .width) (down s) (now selves) (now earlies)
+        × (length (windowBytes (now text) (placed (now pattern) g) s) ≤ length (now listing)) ⌝ }
+    ensures { λ r. ⌜ r ≡ length (windowBytes (now (text .entry)) (placed (now (pattern .entry)) g) s) ⌝ }
     ensures { λ r. ⌜
         now (listing .exit) ≡ written (now (listing .entry)) 0
-        (windowBytes (now (text .entry)) (now (pattern .entry)) s) ⌝ }
+        (windowBytes (now (text .entry)) (placed (now (pattern .entry)) g) s) ⌝ }
 {
     let mut offsets = no_positions();
-    list_offsets(pattern, s.columns, s.width, listed, first, &mut offsets);
+    list_offsets(pattern, g, s.columns, s.width, listed, first, &mut offsets);
     let mut heads = no_positions();
     let end = write_rows(
         text,
         pattern,
+        g,
         s,
         listed,
         &offsets,
@@ -60,6 +64,7 @@ fn write_windows(
     write_strips(
         text,
         pattern,
+        g,
         s,
         flags,
         size,
@@ -77,6 +82,7 @@ fn write_windows(
 pub fn write_listing(
     text: &[u8],
     pattern: &[u8],
+    g: Placing,
     s: Shape,
     listed: &[u8],
     first: &[usize; 256],
@@ -88,19 +94,21 @@ pub fn write_listing(
     listing: &mut [u8],
 )
     requires { ⌜
-        Flagged (now text) (now pattern) s (now flags) × (found ≡ foundIn (asked (now text) (now pattern) s))
-        × (refused ≡ refusedIn (asked (now text) (now pattern) s))
-        × (length (searchListing (asked (now text) (now pattern) s)) ≤ length (now listing))
-        × (now listed ≡ symbolsOf (now pattern))
-        × FirstPlaces (patternAt (now pattern)) (length (now pattern)) (now first)
-        × OwnSoFar (now pattern) (s .width) (down s) (now selves) (now earlies) ⌝ }
+        Flagged (now text) (placed (now pattern) g) s (now flags) × (found ≡ foundIn
+        (asked (now text) (placed (now pattern) g) s))
+        × (refused ≡ refusedIn (asked (now text) (placed (now pattern) g) s))
+        × (length (searchListing (asked (now text) (placed (now pattern) g) s)) ≤ length (now listing))
+        × (now listed ≡ symbolsOf (placed (now pattern) g))
+        × FirstPlaces (patternAt (placed (now pattern) g)) (length (placed (now pattern) g)) (now first)
+        × OwnSoFar (placed (now pattern) g) (s .width) (down s) (now selves) (now earlies) ⌝ }
     ensures { λ r. ⌜
-        now (listing .exit) ≡ overFront (searchListing (asked (now (text .entry)) (now (pattern .entry)) s))
+        now (listing .exit) ≡ overFront (searchListing (asked (now (text .entry)) (placed (now (pattern .entry)) g) s))
         (now (listing .entry)) ⌝ }
 {
     let at = write_windows(
         text,
         pattern,
+        g,
         s,
         listed,
         first,

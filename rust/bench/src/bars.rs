@@ -27,6 +27,10 @@ pub const LIST: f64 = 1.2;
 /// What the check of a listing may take of the time of the search that wrote it.
 pub const CHECK: f64 = 1.2;
 
+/// What the search at a scale may take of the time of the search with the stored enlargement as its pattern, and the
+/// search at every scale of the time of all those searches.
+pub const SCALED: f64 = 2.0;
+
 /// By how much the time for a cell may be above that with a lower pattern: the noise of the measurement.
 pub const GROWTH: f64 = 1.1;
 
@@ -89,6 +93,11 @@ pub fn count(times: &Times) -> Judged {
 /// The list, its second half, beside the search.
 pub fn list(times: &Times) -> Judged {
     Judged::of(times.list, times.search, Some(LIST))
+}
+
+/// A search at a scale, or at every scale, beside the search or the searches for stored enlargements.
+pub fn scaled(scaled: Duration, stored: Duration) -> Judged {
+    Judged::of(scaled, stored, Some(SCALED))
 }
 
 /// The check beside the search.

@@ -4,13 +4,13 @@ use crate::input::{Class, Kind};
 use crate::texts::{by_rules, random, regular, Defect, Rule, Sides};
 
 /// The rules of regular texts, with their names.
-const CONSTANT: (&str, Rule) = ("constant", |_, _| 0);
-const PERIODIC: (&str, Rule) = ("period 4 by 4", |i, j| i % 4 * 4 + j % 4);
-const VERTICAL: (&str, Rule) = ("vertical stripes", |_, j| j % 2);
-const HORIZONTAL: (&str, Rule) = ("horizontal stripes", |i, _| i % 2);
-const CHECKERBOARD: (&str, Rule) = ("checkerboard", |i, j| (i + j) % 2);
-const ROWS: (&str, Rule) = ("rows constant, all different", |i, _| i);
-const COLUMNS: (&str, Rule) = ("columns constant, all different", |_, j| j);
+pub const CONSTANT: (&str, Rule) = ("constant", |_, _| 0);
+pub const PERIODIC: (&str, Rule) = ("period 4 by 4", |i, j| i % 4 * 4 + j % 4);
+pub const VERTICAL: (&str, Rule) = ("vertical stripes", |_, j| j % 2);
+pub const HORIZONTAL: (&str, Rule) = ("horizontal stripes", |i, _| i % 2);
+pub const CHECKERBOARD: (&str, Rule) = ("checkerboard", |i, j| (i + j) % 2);
+pub const ROWS: (&str, Rule) = ("rows constant, all different", |i, _| i);
+pub const COLUMNS: (&str, Rule) = ("columns constant, all different", |_, j| j);
 
 /// Patterns from small ones to half of the text and more.
 const LARGE: [Sides; 4] = [(16, 16), (64, 64), (128, 128), (128, 170)];

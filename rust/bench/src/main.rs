@@ -1,8 +1,24 @@
-//! The proved search and its counts beside those of a plain Rust program, and the proved count, list and check beside
-//! the search, in one run and on the same inputs. No time is asserted: what misses a bar is marked.
+//! The proved search and its counts beside those of a plain Rust program, and the proved count, list and check and the
+//! searches at scales beside the search, in one run and on the same inputs. No time is asserted: what misses a bar is
+//! marked.
 //!
 //! `cargo run --release --offline -p bench`, after `rt staticlib exports` at the repository's top. With an argument
 //! only the classes are measured in whose names it stands: `cargo run --release --offline -p bench -- stripes`.
+
+/// Calls a proved operation on a text and a pattern: these two with their sides, and then what else it takes.
+macro_rules! call {
+    ($operation:ident, $input:expr, $($rest:expr),*) => {
+        colourway::$operation(
+            &$input.text,
+            $input.rows,
+            $input.columns,
+            &$input.pattern,
+            $input.height,
+            $input.width,
+            $($rest),*
+        )
+    };
+}
 
 mod aimed;
 mod bars;
@@ -12,6 +28,9 @@ mod hostile;
 mod input;
 mod measure;
 mod plain;
+mod scale_classes;
+mod scale_tables;
+mod scales;
 mod tables;
 mod texts;
 
@@ -85,12 +104,17 @@ fn main() {
     } else {
         Vec::new()
     };
+    let scaled = scale_tables::print(&part);
     let missing = lines.iter().filter(|line| !misses(line).is_empty()).count();
     let mut worst: Vec<_> = lines.iter().flat_map(misses).collect();
+    worst.extend(scaled.misses);
     worst.sort_by(|(a, _), (b, _)| b.total_cmp(a));
     println!(
-        "\n{missing} of {} classes miss a bar, and the time for a cell grows in {} places. The worst first:",
+        "\n{missing} of {} classes miss a bar, {} of {} at scales, and the time for a cell grows in {} places. The \
+         worst first:",
         lines.len(),
+        scaled.missing,
+        scaled.measured,
         growths.len()
     );
     for miss in worst.into_iter().map(|(_, miss)| miss).chain(growths) {

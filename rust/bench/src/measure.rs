@@ -6,21 +6,6 @@ use colourway::{distinct_counts, strip_links};
 use colourway::{Buffers, Checked, CountBuffers, SearchRefusal, Totals};
 use std::time::{Duration, Instant};
 
-/// Calls a proved operation on a text and a pattern: these two with their sides, and then what else it takes.
-macro_rules! call {
-    ($operation:ident, $input:expr, $($rest:expr),*) => {
-        colourway::$operation(
-            &$input.text,
-            $input.rows,
-            $input.columns,
-            &$input.pattern,
-            $input.height,
-            $input.width,
-            $($rest),*
-        )
-    };
-}
-
 /// Each class is measured at least so many times and at least so long.
 pub const ROUNDS: u32 = 9;
 pub const LEAST: Duration = Duration::from_millis(200);
@@ -28,15 +13,15 @@ pub const LEAST: Duration = Duration::from_millis(200);
 /// The buffers of a search, which own what they lend.
 #[derive(Clone, PartialEq)]
 pub struct Lent {
-    links: Vec<u16>,
-    counts: Vec<u16>,
-    flags: Vec<u8>,
-    listing: Vec<u8>,
+    pub links: Vec<u16>,
+    pub counts: Vec<u16>,
+    pub flags: Vec<u8>,
+    pub listing: Vec<u8>,
 }
 
 impl Lent {
     /// Buffers as long as the search needs them, but for the listing, which has this length. They hold noise.
-    fn of(input: &Input, listing: usize) -> Lent {
+    pub fn of(input: &Input, listing: usize) -> Lent {
         Lent {
             links: vec![0xA5A5; input.rows * input.width],
             counts: vec![0xA5A5; input.windows()],
@@ -45,7 +30,7 @@ impl Lent {
         }
     }
 
-    fn lend(&mut self) -> Buffers<'_> {
+    pub fn lend(&mut self) -> Buffers<'_> {
         Buffers {
             links: &mut self.links,
             counts: &mut self.counts,

@@ -6,7 +6,7 @@ use colourway::Totals;
 use std::time::Duration;
 
 /// How wide the column of names is.
-const NAME: usize = 76;
+pub const NAME: usize = 76;
 
 /// A class that was measured, with what its lines say.
 pub struct Line {
@@ -23,7 +23,7 @@ pub struct Line {
 }
 
 /// A time in milliseconds.
-fn milliseconds(time: Duration) -> f64 {
+pub fn milliseconds(time: Duration) -> f64 {
     time.as_secs_f64() * 1e3
 }
 

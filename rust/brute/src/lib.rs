@@ -11,6 +11,7 @@ mod compare;
 mod count_list;
 mod listing;
 mod program;
+mod scales;
 mod search;
 
 pub use bijections::{compose, invert, pair, Columns};
@@ -19,6 +20,7 @@ pub use compare::one_window;
 pub use count_list::{count, list};
 pub use listing::read;
 pub use program::program;
+pub use scales::{search_scaled, search_scales};
 pub use search::{search, Buffers};
 
 use std::collections::BTreeSet;
@@ -68,8 +70,8 @@ impl<'a> Given<'a> {
     }
 }
 
-/// The first of the conditions 2, 3 and 4 that holds of a sheet and a motif, with whether one does.
-fn input_condition(given: Given) -> (u8, bool) {
+/// The first of the conditions 2 and 3 that holds of a sheet and a motif, with whether one does.
+fn cells_condition(given: Given) -> (u8, bool) {
     let [rows, columns, height, width] = [given.rows, given.columns, given.height, given.width];
     let number = first_refusal(&[
         (2, some_side_is_bad(&[rows, columns, height, width])),
@@ -78,7 +80,15 @@ fn input_condition(given: Given) -> (u8, bool) {
             given.text.len() as u128 != product(rows, columns)
                 || given.pattern.len() as u128 != product(height, width),
         ),
-        (4, height > rows || width > columns),
+    ]);
+    (number, number != 0)
+}
+
+/// The first of the conditions 2, 3 and 4, likewise.
+fn input_condition(given: Given) -> (u8, bool) {
+    let number = first_refusal(&[
+        cells_condition(given),
+        (4, given.height > given.rows || given.width > given.columns),
     ]);
     (number, number != 0)
 }

@@ -100,7 +100,11 @@ pub fn search(
     width: usize,
     lent: &Buffers,
 ) -> (u8, Vec<usize>, Buffers) {
-    let given = Given::of(text, rows, columns, pattern, height, width);
+    search_in(Given::of(text, rows, columns, pattern, height, width), lent)
+}
+
+/// The search of a sheet and a motif as one value.
+pub(crate) fn search_in(given: Given, lent: &Buffers) -> (u8, Vec<usize>, Buffers) {
     let number = lent_refusal(given, lent);
     if number != 0 {
         return (number, Vec::new(), lent.clone());

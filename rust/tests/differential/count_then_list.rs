@@ -60,7 +60,7 @@ fn agree(name: &str, cases: u64, input: fn(&mut Random) -> Input) -> BTreeMap<Ki
         let kind = (
             input.given.made,
             sides,
-            result(&input, number, totals, &after),
+            result(&input.given, number, totals, &after),
         );
         *met.entry(kind).or_insert(0) += 1;
     }

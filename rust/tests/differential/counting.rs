@@ -31,7 +31,10 @@ fn brute(case: &Input) -> Answer {
 /// How a case was made, and what came of it.
 fn kind(input: &Input, answer: &Answer) -> (&'static str, (u8, &'static str)) {
     let ((number, totals, after), _) = answer;
-    (input.given.made, result(input, *number, *totals, after))
+    (
+        input.given.made,
+        result(&input.given, *number, *totals, after),
+    )
 }
 
 /// The input has a listing buffer too, often too short: the count is not lent it, and has no 11.

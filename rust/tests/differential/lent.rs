@@ -1,4 +1,4 @@
-//! What the search, the count and the list are lent, and what comes of it.
+//! What the search, the count, the list and the searches at scales are lent, and what comes of it.
 
 use crate::number;
 use crate::random::Random;
@@ -16,16 +16,15 @@ pub struct Input {
 }
 
 impl Input {
-    /// Text and pattern with buffers of noise, of the lengths that `room` finds for the entries needed.
-    fn lend(
+    /// Text and pattern with buffers of noise, of the lengths that `room` finds for the entries that are needed of
+    /// links, counts, flags and listing.
+    pub fn lend(
         random: &mut Random,
         given: TextAndPattern,
+        needed: [usize; 4],
         mut room: impl FnMut(&mut Random, usize) -> usize,
     ) -> Input {
-        let links = room(random, given.rows * given.width);
-        let counts = room(random, given.windows());
-        let flags = room(random, given.windows());
-        let listing = room(random, given.listing_length());
+        let [links, counts, flags, listing] = needed.map(|entries| room(random, entries));
         Input {
             given,
             lent: Buffers {
@@ -43,10 +42,11 @@ impl Input {
 pub fn input(random: &mut Random) -> Input {
     let sides = sides(random);
     let given = TextAndPattern::make(random, sides);
+    let needed = given.needed();
     if random.one_in(2) {
-        return Input::lend(random, given, Random::enough);
+        return Input::lend(random, given, needed, Random::enough);
     }
-    let mut input = Input::lend(random, given, Random::room);
+    let mut input = Input::lend(random, given, needed, Random::room);
     input.given.spoil(random);
     input
 }
@@ -55,14 +55,20 @@ pub fn input(random: &mut Random) -> Input {
 pub fn large_input(random: &mut Random) -> Input {
     let sides = large_sides(random);
     let given = TextAndPattern::make(random, sides);
+    let needed = given.needed();
+    lend_nearly(random, given, needed)
+}
+
+/// Buffers that have the entries needed; every other time one of the four is one entry too short.
+pub fn lend_nearly(random: &mut Random, given: TextAndPattern, needed: [usize; 4]) -> Input {
     let short = random.below(8);
     let mut buffer = 0;
-    Input::lend(random, given, |random, needed| {
+    Input::lend(random, given, needed, |random, entries| {
         buffer += 1;
         if buffer == short {
-            needed - 1
+            entries - 1
         } else {
-            random.enough(needed)
+            random.enough(entries)
         }
     })
 }
@@ -154,26 +160,28 @@ pub fn short_by(length: usize, needed: usize) -> &'static str {
     }
 }
 
-/// The number, and of an accepted search how many windows are found; of a buffer that is too short whether by one
-/// entry.
+/// By how much counts or flags are too short.
+pub fn windows_short_by(after: &Buffers, windows: usize) -> &'static str {
+    let (counts, flags) = (after.counts.len(), after.flags.len());
+    match (counts >= windows, flags >= windows) {
+        (false, true) if counts + 1 == windows => "by one count",
+        (true, false) if flags + 1 == windows => "by one flag",
+        _ => "by more",
+    }
+}
+
+/// The number, and of an accepted search how many windows are found; of a buffer that is too short for this text and
+/// this pattern whether by one entry.
 pub fn result(
-    input: &Input,
+    given: &TextAndPattern,
     number: u8,
     totals: [usize; 3],
     after: &Buffers,
 ) -> (u8, &'static str) {
     let detail = match (number, totals) {
         (0, [found, refused, _]) => which_found(found, refused),
-        (9, _) => short_by(after.links.len(), input.given.rows * input.given.width),
-        (10, _) => {
-            let windows = input.given.windows();
-            let (counts, flags) = (after.counts.len(), after.flags.len());
-            match (counts >= windows, flags >= windows) {
-                (false, true) if counts + 1 == windows => "by one count",
-                (true, false) if flags + 1 == windows => "by one flag",
-                _ => "by more",
-            }
-        }
+        (9, _) => short_by(after.links.len(), given.rows * given.width),
+        (10, _) => windows_short_by(after, given.windows()),
         (11, [_, _, needed]) => short_by(after.listing.len(), needed),
         _ => "",
     };

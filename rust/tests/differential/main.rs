@@ -19,6 +19,7 @@ macro_rules! call {
 
 mod bijections;
 mod check;
+mod coarse;
 mod compare;
 mod count_then_list;
 mod counting;
@@ -30,6 +31,8 @@ mod listing;
 mod program;
 mod random;
 mod reader;
+mod scaled;
+mod scales;
 mod search;
 mod single_flags;
 mod symbols;

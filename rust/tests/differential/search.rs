@@ -60,7 +60,7 @@ fn kind(input: &Input, answer: &Answer) -> Kind {
     (
         input.given.made,
         input.given.shape,
-        result(input, *number, *totals, after),
+        result(&input.given, *number, *totals, after),
         kinds,
     )
 }

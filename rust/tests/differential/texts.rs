@@ -4,7 +4,7 @@ use crate::random::Random;
 use brute::{Buffers, Given};
 
 /// A text and a pattern with their sides.
-#[derive(Debug)]
+#[derive(Clone, Debug)]
 pub struct TextAndPattern {
     /// How text and pattern were made, and what is special about their sides.
     pub made: &'static str,
@@ -224,9 +224,27 @@ impl TextAndPattern {
         }
     }
 
+    /// How many entries a search needs of links, counts, flags and listing.
+    pub fn needed(&self) -> [usize; 4] {
+        let windows = self.windows();
+        [
+            self.rows * self.width,
+            windows,
+            windows,
+            self.listing_length(),
+        ]
+    }
+
     /// The length of the listing, which the brute force tells where there is no room for it.
     pub fn listing_length(&self) -> usize {
         self.search(&self.room(0)).1[0]
+    }
+
+    /// A length that no listing is above: a match takes 3 bytes and 3 for each symbol of the pattern, a mismatch 7, the
+    /// closing 5.
+    pub fn longest_listing(&self) -> usize {
+        let symbols = brute::symbol_set(&self.pattern).len();
+        self.windows() * 7.max(3 + 3 * symbols) + 5
     }
 
     /// The flags of all windows, as they are in truth.
@@ -236,9 +254,7 @@ impl TextAndPattern {
 
     /// The listing, of a pattern that fits into the text.
     pub fn listing(&self) -> Vec<u8> {
-        // A match takes 3 bytes and 3 for each symbol, a mismatch 7, the closing 5.
-        let most = 7.max(3 + 3 * brute::symbol_set(&self.pattern).len());
-        let (_, returned, mut after) = self.search(&self.room(self.windows() * most + 5));
+        let (_, returned, mut after) = self.search(&self.room(self.longest_listing()));
         after.listing.truncate(returned[2]);
         after.listing
     }

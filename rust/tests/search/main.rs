@@ -1,9 +1,11 @@
-//! Document 01's drafts and misweaves of the search, of its two halves and of the reader, run on the proved code. Every
-//! expected value is typed from document 01 or found by hand; none comes from the brute force.
+//! Document 01's drafts and misweaves of the search, of its two halves and of the reader, and drafts at scales, run on
+//! the proved code. Every expected value is typed from document 01 or found by hand; none comes from the brute force.
 
 mod counting;
 mod listing;
 mod reading;
+mod scaled;
+mod scales;
 
 use colourway::{records, search, search_into, Buffers, Refusal, SearchRefusal, Totals};
 

@@ -44,10 +44,6 @@ pub strip-small : (s : Shape) (cells : ℕ) → ShapeOf s cells → s .rows * s 
 strip-small s cells v = product-le (s .rows) (s .width) 255 255 (omega arith) (omega arith)
 
 -- a pattern has at least one cell, and few
-pub cells-some : (s : Shape) (cells n : ℕ) → ShapeOf s cells → n ≡ s .height * s .width → 0 < n
-cells-some s cells n v e =
-    let tall : 1 ≤ s .height = omega arith in omega (arith, e, mul-le-mul-right (s .width) tall, one-mul (s .width))
-
 pub cells-few : (s : Shape) (cells n : ℕ) → ShapeOf s cells → n ≡ s .height * s .width → n ≤ 65025
 cells-few s cells n v e = omega (arith, e, product-le (s .height) (s .width) 255 255 (omega arith) (omega arith))
 

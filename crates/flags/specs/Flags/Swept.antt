@@ -35,6 +35,7 @@ pub record FreshAt (text : List ℕ) (s : Shape) (pattern first last : List ℕ)
   pub reach : ReachAt text (columnStrip s left) pattern first last top (s .height) top 0
   pub small : top * s .width ≤ 65025
   pub size : length pattern ≡ s .height * s .width
+  pub some : 0 < length pattern
 
 -- the flag of the window at row top by its first end, and where the run stands behind it
 pub record FlagIs (text pattern : List ℕ) (s : Shape) (left top : ℕ) (last : List ℕ) (r : RunFlag) : Type 0 where

@@ -139,7 +139,7 @@ module _ (pattern first selves links : List ℕ) (width row reached top : ℕ)
       sym (add-mul row (top - row) width) ∙ ap (λ (x : ℕ). x * width) e
 
   asks : (from : ℕ) → from ≤ length pattern → CompareAt pattern first links (top * width) from
-  asks from h = record { places = asked .places; room = asked .room; small = asked .small; within = h }
+  asks from h = record { some = asked .some; places = asked .places; room = asked .room; small = asked .small; within = h }
 
   -- a window that was compared, from where it was known to agree
   window-compared : (from end : ℕ) → EndsBy pattern links (top * width) from end

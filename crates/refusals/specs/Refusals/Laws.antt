@@ -14,7 +14,7 @@ use Rattle.refusals.specs.declared.refusals.Reason.the-variants.{SizesMi
 use Rattle.refusals.specs.declared.refusals.Reason.the-variants.{CornerOutside, TooManyCells, LinksBufferShort}
 use Rattle.refusals.specs.declared.refusals.Reason.the-variants.{WindowBufferShort, HasOtherImage}
 use Rattle.refusals.specs.declared.refusals.Reason.the-variants.{HasOtherPreimage}
-use Rattle.refusals.specs.declared.refusals.Reason.the-variants.{ColumnsDisagree, FlagsFalse}
+use Rattle.refusals.specs.declared.refusals.Reason.the-variants.{ColumnsDisagree, FlagsFalse, ScaleUnfit}
 use Rattle.refusals.specs.declared.refusals.Refusal.the-variants.{Plain, ListingForm, ListingFalse}
 use Rattle.refusals.specs.declared.refusals.Refusal.the-variants.{ListingBufferShort, CursorSpent}
 use Rattle.refusals.specs.Refusals.{reasonNumber, numberOf, valuesOf}
@@ -33,6 +33,7 @@ reason-positive HasOtherImage = omega arith
 reason-positive HasOtherPreimage = omega arith
 reason-positive ColumnsDisagree = omega arith
 reason-positive FlagsFalse = omega arith
+reason-positive ScaleUnfit = omega arith
 
 pub number-positive : (why : Refusal) → 0 < numberOf why
 number-positive (Plain why) = reason-positive why

@@ -6,10 +6,11 @@ use mathlib.Core.List.{List}
 use Prim.Native.Nat.{ℕ, _+_, _≤_, _<_}
 use native.Mathlib.Nat.{add-zero}
 use native.Mathlib.Omega.{arith}
-use lib.ListN.{length, getD, set}
+use lib.ListN.{length, getD, set, take, drop, length-take, length-drop}
+use lib.Seq.{getD-take, getD-drop}
 use Rattle.prefixes.specs.Prefixes.{suffix}
 use Rattle.prefixes.specs.State.Laws.{agrees-tells, swept-more}
-use Rattle.rows.specs.Rows.{PartAt, PartMeets, EndsPart, PassedPart}
+use Rattle.rows.specs.Rows.{PartAt, PartMeets, EndsPart, PassedPart, ownPart}
 use mathlib.Core.Bool.{Bool, true, false, not}
 use borrow.Author.Tests.{not-true, not-false}
 use Rattle.theory.specs.Match.{ends}
@@ -66,3 +67,11 @@ module _ (pattern row first last₀ : List ℕ) (start from : ℕ) (asked : Part
     where
       over : j < length row → ⊥
       over d = omega arith
+
+-- a part of the pattern that is its own text: its length, and its cells
+module _ (pattern : List ℕ) (at n : ℕ) (inside : at + n ≤ length pattern) where
+  pub own-part-long : length (ownPart pattern at n) ≡ n
+  own-part-long = rw (length-take, length-drop) (omega arith)
+
+  pub own-part-cell : (j : ℕ) → j < n → getD pattern (at + j) 0 ≡ getD (ownPart pattern at n) j 0
+  own-part-cell j h = sym (getD-take n (drop at pattern) j 0 h ∙ getD-drop at pattern j 0)

@@ -9,7 +9,6 @@ use native.Mathlib.Nat.{add-mul, mod-lt, div-add-mod', zero-mul, one-mul, mul-le
 use native.Mathlib.Omega.{arith}
 use lib.ListN.{length, getD, set, replicate, length-set}
 use Rattle.grid.specs.Strips.{StripOf, stripSymbols}
-use Rattle.grid.specs.declared.strips.Strip.{Strip}
 use Rattle.prefixes.specs.Prefixes.{suffix}
 use Rattle.prefixes.specs.State.{FirstPlaces}
 use Rattle.prefixes.specs.State.Laws.{swept-none}
@@ -25,10 +24,7 @@ use Rattle.shapes.specs.Shapes.{Side, down}
 use Rattle.prefixes.specs.Prefixes.Ends.{ends-nowhere, self-end}
 use Rattle.reach.specs.Reach.Laws.{strip-cell}
 use Rattle.sweep.specs.Sweep.{RunAt, OwnEndIs, NextAt, NextIs, SidesOf, OwnMismatches, OwnSoFar, ownRows}
-
--- the pattern as a strip
-abbrev pub ownStrip : ℕ → ℕ → Strip
-ownStrip height width = record { rows = height; columns = width; left = 0; width = width }
+use Rattle.sweep.specs.Sweep.{ownStrip}
 
 -- the run over the pattern itself stands before row top
 pub record OwnRun (pattern : List ℕ) (height width rows : ℕ) (last selves earlies : List ℕ) (row reached top : ℕ)
@@ -64,17 +60,17 @@ module _ (pattern : List ℕ) (height width rows : ℕ) (sides : SidesOf pattern
       ∙ strip-cell pattern (ownStrip height width) (k / width) (k % width) (mod-lt k (sides .broad))
       ∙ ap (λ (x : ℕ). getD pattern x 0) f
 
-  own-symbols : stripSymbols pattern (ownStrip height width) ≡ (λ k. getD pattern k 0)
+  pub own-symbols : stripSymbols pattern (ownStrip height width) ≡ (λ k. getD pattern k 0)
   own-symbols = fun-ext own-symbol
 
   -- how many positions a window from row top on has
-  own-left : (top : ℕ) → top ≤ rows → (rows - top) * width ≡ rows * width - top * width
+  pub own-left : (top : ℕ) → top ≤ rows → (rows - top) * width ≡ rows * width - top * width
   own-left top h =
       let e : top + (rows - top) ≡ rows = omega arith in
       let f : (top + (rows - top)) * width ≡ rows * width = ap (λ (x : ℕ). x * width) e in
       omega (arith, add-mul top (rows - top) width)
 
-  own-whole : (top : ℕ) → top ≤ rows → (top + (rows - top)) * width ≡ rows * width
+  pub own-whole : (top : ℕ) → top ≤ rows → (top + (rows - top)) * width ≡ rows * width
   own-whole top h = let e : top + (rows - top) ≡ rows = omega arith in ap (λ (x : ℕ). x * width) e
 
   -- as many positions as the rows have, and no more than the pattern

@@ -4,7 +4,7 @@
 use mathlib.Core.Path.{_≡_, sym, _∙_, ap}
 use mathlib.Core.List.{List}
 use Prim.Native.Nat.{ℕ, _+_, _-_, _*_, _≤_, _<_}
-use native.Mathlib.Nat.{add-mul, zero-mul, mul-le-mul-right}
+use native.Mathlib.Nat.{add-mul, zero-mul, mul-le-mul, mul-le-mul-right}
 use native.Mathlib.Omega.{arith}
 use lib.ListN.{length, getD}
 use Rattle.grid.specs.Strips.{stripSymbols}
@@ -27,6 +27,13 @@ pub sides-of : (text : List ℕ) (s : Shape) (pattern : List ℕ) → ShapeOf s 
     → length pattern ≡ s .height * s .width → SidesOf pattern (s .height) (s .width)
 sides-of text s pattern shape e =
     record { cells = e; tall = omega arith; broad = omega arith; height-le = omega arith; width-le = omega arith }
+
+-- such a pattern has a cell
+pub cells-some : (s : Shape) (cells n : ℕ) → ShapeOf s cells → n ≡ s .height * s .width → 0 < n
+cells-some s cells n shape e =
+    let tall : 1 ≤ s .height = omega arith in
+    let broad : 1 ≤ s .width = omega arith in
+    omega (arith, mul-le-mul tall broad)
 
 -- a window is passed over: the run stands before the next one with what it had
 pub run-past : (text : List ℕ) (s : Shape) (pattern : List ℕ) (left : ℕ) (last : List ℕ) (row reached top : ℕ)

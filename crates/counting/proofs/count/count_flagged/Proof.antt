@@ -6,6 +6,7 @@ use Prim.Native.Nat.{ℕ, _*_, _<_}
 use native.Mathlib.Omega.{arith}
 use lib.ListN.{length, getD}
 use denote.Ref.{now}
+use Rattle.placed.specs.Placing.{placed}
 use Rattle.shapes.specs.Questions.{asked}
 use Rattle.shapes.specs.Shapes.{across, down}
 use Rattle.counts.specs.Counts.Laws.{windows-small}
@@ -37,7 +38,7 @@ sub-n-2 : tie.Need-sub-n-2
 sub-n-2 c = search needs
 
 mul-n : tie.Need-mul-n
-mul-n c = search needs
+mul-n c = let o = c .before .before .before .before .before .before .before .before .before in omega (arith, windows-small (o .args .s) _ (o .pre .0 .shape))
 
 flag-all-requires : tie.Need-flag-all-requires
 flag-all-requires c κs =
@@ -53,7 +54,7 @@ totals-of-requires c κs =
       omega (
         arith,
         o .pre .0 .flags-room,
-        flags-after-long (asked (now (a .text)) (now (a .pattern)) (a .s))
+        flags-after-long (asked (now (a .text)) (placed (now (a .pattern)) (a .g)) (a .s))
             (working (now (a .links)) (now (a .counts)) (now (a .flags))) _ (o .pre .0) (m .flag-all .ensures .0),
       ),
     )
@@ -76,8 +77,8 @@ returns c =
     let e = c .totals-of .ensures in (
       w .0,
       (
-        totalled (now (a .text)) (now (a .pattern)) (a .s) _
-            (flags-after-true (asked (now (a .text)) (now (a .pattern)) (a .s))
+        totalled (now (a .text)) (placed (now (a .pattern)) (a .g)) (a .s) _
+            (flags-after-true (asked (now (a .text)) (placed (now (a .pattern)) (a .g)) (a .s))
             (working (now (a .links)) (now (a .counts)) (now (a .flags))) _ (o .pre .0) (w .0)) _ _ _ (e .0) (e .1 .0)
             (e .1 .1),
         w .1,

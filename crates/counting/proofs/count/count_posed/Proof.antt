@@ -1,39 +1,15 @@
 -- `count::count_posed` meets its contract: where there is room, the answer is the totals (`count-accepts`).
 -- Assumes nothing.
-use native.Mathlib.Omega.{arith}
 use denote.Ref.{now}
-use Rattle.theory.specs.Older.Laws.{zeros-long}
 use Rattle.shapes.specs.Questions.{asked}
-use Rattle.sweep.specs.Sweep.Own.{own-unmade}
 use Rattle.flags.specs.Flags.{working}
 use Rattle.counting.specs.Count.{count-accepts}
 use borrow.Author.Needs.{needs}
 use Rattle.counting.proofs.count.count_posed.Statement.{statement}
 use Rattle.counting.proofs.count.count_posed.Tie as tie
 
-no-positions-requires : tie.Need-no-positions-requires
-no-positions-requires c κs = search needs
-
-no-symbols-requires : tie.Need-no-symbols-requires
-no-symbols-requires c κs = search needs
-
-read-pattern-requires : tie.Need-read-pattern-requires
-read-pattern-requires c κs =
-    let n = c .before .before in
-    (zeros-long _ (n .before .no-positions .ensures), zeros-long _ (n .no-symbols .ensures))
-
-no-positions-requires-2 : tie.Need-no-positions-requires-2
-no-positions-requires-2 c κs = search needs
-
-no-positions-requires-3 : tie.Need-no-positions-requires-3
-no-positions-requires-3 c κs = search needs
-
-count-flagged-requires : tie.Need-count-flagged-requires
-count-flagged-requires c κs =
-    let o = c .before .before .before .before .before .before .before .before .before .before .before .before .before .before .before .before .before .before in
-    let e = c .before .before .before .before .before .before .before .before .read-pattern .ensures in
-    let n = c .before .before .before .before .before .before in
-    (o .pre, e .0, e .1 .0, own-unmade _ _ _ _ _ (n .before .no-positions2 .ensures) (n .no-positions3 .ensures))
+count-laid-requires : tie.Need-count-laid-requires
+count-laid-requires c κs = c .before .before .before .before .before .before .before .before .pre
 
 same-length : tie.Need-same-length
 same-length c = search needs
@@ -46,25 +22,13 @@ same-length-3 c = search needs
 
 returns : tie.Need-returns
 returns c =
-    let o = c .before .before .before .before .before .before .before .before .before .before .before .before .before .before .before .before .before .before .before .before .before .before .before .before .before in
+    let o = c .before .before .before .before .before .before .before .before .before .before .before .before .before .before .before in
     let a = o .args in
-    let e = c .before .before .before .before .before .before .count-flagged .ensures in
-    let t = e .1 .0 in
+    let e = c .before .before .before .before .before .before .count-laid .ensures in
+    let t = e .1 in
     count-accepts (asked (now (a .text)) (now (a .pattern)) (a .s))
     (working (now (a .links)) (now (a .counts)) (now (a .flags))) (o .pre) _ _ _ _ (e .0) (t .found-is) (t .refused-is)
     (t .size-is)
 
 pub count-posed-spec : {M : Type 1} → statement M
-count-posed-spec =
-    tie.close
-    (tie.spec
-    no-positions-requires
-    no-symbols-requires
-    read-pattern-requires
-    no-positions-requires-2
-    no-positions-requires-3
-    count-flagged-requires
-    same-length
-    same-length-2
-    same-length-3
-    returns)
+count-posed-spec = tie.close (tie.spec count-laid-requires same-length same-length-2 same-length-3 returns)

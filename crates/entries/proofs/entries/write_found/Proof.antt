@@ -2,6 +2,7 @@
 -- Assumes nothing.
 use borrow.Author.Needs.{needs}
 use denote.Ref.{now}
+use Rattle.placed.specs.Placing.{placed}
 use Rattle.sets.specs.Symbols.{symbolsOf}
 use Rattle.listing.specs.Records.{bytesOf}
 use Rattle.theory.specs.Pieces.{first-room, second-room, both-written}
@@ -11,19 +12,19 @@ use Rattle.entries.specs.Listing.Pairs.{pairBytes, found-bytes}
 use Rattle.entries.proofs.entries.write_found.Statement.{statement}
 use Rattle.entries.proofs.entries.write_found.Tie as tie
 
-cast-t10 : tie.Need-cast-t10
-cast-t10 c = search needs
-
 cast-t11 : tie.Need-cast-t11
 cast-t11 c = search needs
+
+cast-t12 : tie.Need-cast-t12
+cast-t12 c = search needs
 
 write-record-requires : tie.Need-write-record-requires
 write-record-requires c κs =
     let o = c .before .before .before .before .before .before .before in
     let a = o .args in
     first-room (now (a .listing)) (a .at) (bytesOf (Found (a .v .row) (a .v .column)))
-    (pairBytes (imagesAt (now (a .text)) (a .v) (now (a .pattern))) (symbolsOf (now (a .pattern)))) _
-    (found-bytes (now (a .text)) (a .v) (now (a .pattern))) (o .pre .4)
+    (pairBytes (imagesAt (now (a .text)) (a .v) (placed (now (a .pattern)) (a .g))) (symbolsOf (placed (now (a .pattern)) (a .g)))) _
+    (found-bytes (now (a .text)) (a .v) (placed (now (a .pattern)) (a .g))) (o .pre .4)
 
 write-pairs-requires : tie.Need-write-pairs-requires
 write-pairs-requires c κs =
@@ -34,8 +35,8 @@ write-pairs-requires c κs =
       o .pre .2,
       o .pre .3,
       second-room (now (a .listing)) (a .at) (bytesOf (Found (a .v .row) (a .v .column)))
-          (pairBytes (imagesAt (now (a .text)) (a .v) (now (a .pattern))) (symbolsOf (now (a .pattern)))) _
-          (found-bytes (now (a .text)) (a .v) (now (a .pattern))) (o .pre .4) _ _ (w .1) (w .0),
+          (pairBytes (imagesAt (now (a .text)) (a .v) (placed (now (a .pattern)) (a .g))) (symbolsOf (placed (now (a .pattern)) (a .g)))) _
+          (found-bytes (now (a .text)) (a .v) (placed (now (a .pattern)) (a .g))) (o .pre .4) _ _ (w .1) (w .0),
     )
 
 same-length : tie.Need-same-length
@@ -49,10 +50,10 @@ returns c =
     let w = c .before .before .before .before .before .before .write-record .ensures in
     let p = c .before .before .write-pairs .ensures in
     both-written (now (a .listing)) (a .at) (bytesOf (Found (a .v .row) (a .v .column)))
-    (pairBytes (imagesAt (now (a .text)) (a .v) (now (a .pattern))) (symbolsOf (now (a .pattern)))) _
-    (found-bytes (now (a .text)) (a .v) (now (a .pattern))) (o .pre .4) _ _ (w .1) (w .0) _ _ (p .1) (p .0)
+    (pairBytes (imagesAt (now (a .text)) (a .v) (placed (now (a .pattern)) (a .g))) (symbolsOf (placed (now (a .pattern)) (a .g)))) _
+    (found-bytes (now (a .text)) (a .v) (placed (now (a .pattern)) (a .g))) (o .pre .4) _ _ (w .1) (w .0) _ _ (p .1) (p .0)
 
 pub write-found-spec : {M : Type 1} → statement M
 write-found-spec =
     tie.close
-    (tie.spec cast-t10 cast-t11 write-record-requires write-pairs-requires same-length returns)
+    (tie.spec cast-t11 cast-t12 write-record-requires write-pairs-requires same-length returns)

@@ -9,6 +9,7 @@ use lib.ListN.{length}
 use borrow.Author.Needs.{needs}
 use denote.Ref.{now}
 use borrow.Author.Tests.{eq-eqb, ne-eqb}
+use Rattle.placed.specs.Placing.{placed}
 use Rattle.theory.specs.Test.Laws.{pick-true, pick-false}
 use Rattle.theory.specs.Written.{written}
 use Rattle.listing.specs.Entries.{bytesAll}
@@ -22,12 +23,12 @@ use Rattle.entries.proofs.entries.write_if_found.Tie as tie
 -- the records that are written are the window's
 records : (c : tie.Then1) →
     let a = c .before .before .before .before .before .args in foundRecords (now (a .text)) (a .v)
-    (now (a .pattern)) ≡ entryAt (now (a .text)) (now (a .pattern)) (a .v)
+    (placed (now (a .pattern)) (a .g)) ≡ entryAt (now (a .text)) (placed (now (a .pattern)) (a .g)) (a .v)
 records c =
     let a = c .before .before .before .before .before .args in
     let w = c .before .before .before .before .before .pre .0 in
-    found-records (now (a .text)) (a .v) (now (a .pattern)) (w .size)
-    (flag-matched (now (a .text)) (a .v) (now (a .pattern)) _ (w .flag-is) (c .if1 .taken))
+    found-records (now (a .text)) (a .v) (placed (now (a .pattern)) (a .g)) (w .size)
+    (flag-matched (now (a .text)) (a .v) (placed (now (a .pattern)) (a .g)) _ (w .flag-is) (c .if1 .taken))
 
 write-found-requires : tie.Need-write-found-requires
 write-found-requires c κs =
@@ -57,12 +58,12 @@ returns c =
 -- a window that is not found has 7 bytes
 seven : (c : tie.Else1) →
     let a = c .before .before .before .before .before .args in 7
-    ≡ length (bytesAll (entryAt (now (a .text)) (now (a .pattern)) (a .v)))
+    ≡ length (bytesAll (entryAt (now (a .text)) (placed (now (a .pattern)) (a .g)) (a .v)))
 seven c =
     let a = c .before .before .before .before .before .args in
     let w = c .before .before .before .before .before .pre .0 in
-    refused-length (now (a .text)) (a .v) (now (a .pattern))
-    (flag-unmatched (now (a .text)) (a .v) (now (a .pattern)) _ (w .flag-is) (c .if1 .left))
+    refused-length (now (a .text)) (a .v) (placed (now (a .pattern)) (a .g))
+    (flag-unmatched (now (a .text)) (a .v) (placed (now (a .pattern)) (a .g)) _ (w .flag-is) (c .if1 .left))
 
 add-result : tie.Need-add-result
 add-result c = search needs

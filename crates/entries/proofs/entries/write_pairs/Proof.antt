@@ -7,6 +7,7 @@ use native.Mathlib.Omega.{arith}
 use Prim.Native.Nat.{ℕ, _+_, _-_, _*_, _≤_, _<_}
 use lib.ListN.{length, getD, drop}
 use denote.Ref.{now}
+use Rattle.placed.specs.Placing.{placed}
 use Rattle.theory.specs.Written.{written, length-written}
 use Rattle.theory.specs.Pieces.{Left, left-all, left-long, left-none}
 use Rattle.matching.specs.Compare.Positions.{start-small}
@@ -38,7 +39,7 @@ few c =
     omega (
       arith,
       c .before .loop-test .taken,
-      listed-few (now (o .args .pattern)) (now (o .args .listed)) (o .pre .2 .symbols-are),
+      listed-few (placed (now (o .args .pattern)) (o .args .g)) (now (o .args .listed)) (o .pre .2 .symbols-are),
     )
 
 -- its cell lies in the text
@@ -48,12 +49,12 @@ inside : (c : tie.After-image Inv-loop μ-loop) →
     < length (now (a .text))
 inside c =
     let o = entry (c .before) in
-    pair-inside (now (o .args .text)) (o .args .v) (now (o .args .pattern)) (now (o .args .listed))
+    pair-inside (now (o .args .text)) (o .args .v) (placed (now (o .args .pattern)) (o .args .g)) (now (o .args .listed))
     (now (o .args .offsets)) (o .pre .2) _ (c .before .before .loop-test .taken) (o .pre .0) (o .pre .1)
 
 -- what the tables read of this window
 abbrev images : tie.After-shared-slice-known4 Inv-loop μ-loop → ℕ → ℕ
-images c = let a = entry c .args in imagesAt (now (a .text)) (a .v) (now (a .pattern))
+images c = let a = entry c .args in imagesAt (now (a .text)) (a .v) (placed (now (a .pattern)) (a .g))
 
 tables : (c : tie.After-shared-slice-known4 Inv-loop μ-loop) →
     let a = entry c .args in
@@ -78,7 +79,7 @@ loop-holds c = let o = c .before .before .before .before .before .before in
         arith,
         o .pre .3,
         pairs-long f (now (a .listed)),
-        pairs-long (imagesAt (now (a .text)) (a .v) (now (a .pattern))) (symbolsOf (now (a .pattern))),
+        pairs-long (imagesAt (now (a .text)) (a .v) (placed (now (a .pattern)) (a .g))) (symbolsOf (placed (now (a .pattern)) (a .g))),
         ap length (o .pre .2 .symbols-are),
       )),
     )
@@ -122,7 +123,7 @@ loop-again c = let i = c .before .before .before .before .before .before in
 same-length : tie.Need-same-length Inv-loop μ-loop
 same-length c = let o = c .before .before .before .before .before .before .before .before in
     let a = o .args in
-    let f = imagesAt (now (a .text)) (a .v) (now (a .pattern)) in
+    let f = imagesAt (now (a .text)) (a .v) (placed (now (a .pattern)) (a .g)) in
     left-long _ _ _ (c .before .loop .inv .1 f (tables-read (now (a .text)) (a .v) _ _ _ (o .pre .2)))
     ∙ length-written _ _ _ (omega (
       arith,
@@ -134,7 +135,7 @@ returns : tie.Need-returns Inv-loop μ-loop
 returns c = let o = c .before .before .before .before .before .before .before .before in
     let a = o .args in
     let l = c .before .loop in
-    let f = imagesAt (now (a .text)) (a .v) (now (a .pattern)) in
+    let f = imagesAt (now (a .text)) (a .v) (placed (now (a .pattern)) (a .g)) in
     let e = left-none (l .listing) (l .end) _ (l .inv .1 f (tables-read (now (a .text)) (a .v) _ _ _ (o .pre .2)))
     (pairs-over f (now (a .listed)) (l .k) (omega (arith, c .loop-test .left))) in (
       e .1 ∙ ap (λ (xs : List ℕ). a .at + length (pairBytes f xs)) (o .pre .2 .symbols-are),

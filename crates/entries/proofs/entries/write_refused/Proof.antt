@@ -7,6 +7,7 @@ use Prim.Native.Nat.{ℕ, _+_, _<_}
 use lib.Dec.{eqb}
 use lib.ListN.{length}
 use denote.Ref.{now}
+use Rattle.placed.specs.Placing.{placed}
 use Rattle.theory.specs.Match.{earliest}
 use Rattle.prefixes.specs.Prefixes.Ends.{inside-earlier}
 use Rattle.matching.specs.Compare.{patternAt, windowOf, cellCount}
@@ -22,16 +23,16 @@ use Rattle.entries.proofs.entries.write_refused.Tie as tie
 -- the mismatch ends inside
 later-inside : (o : tie.Start) → o .args .later < cellCount (o .args .v)
 later-inside o =
-    end-inside (now (o .args .text)) (o .args .v) (now (o .args .pattern)) (o .pre .0) (o .args .later) 0
+    end-inside (now (o .args .text)) (o .args .v) (placed (now (o .args .pattern)) (o .args .g)) (o .pre .0) (o .args .later) 0
     (o .pre .1 .end-is)
 
 earlier-is : (o : tie.Start) → o .args .earlier
-    ≡ earliest (patternAt (now (o .args .pattern))) (windowOf (now (o .args .text)) (o .args .v)) (o .args .later)
+    ≡ earliest (patternAt (placed (now (o .args .pattern)) (o .args .g))) (windowOf (now (o .args .text)) (o .args .v)) (o .args .later)
 earlier-is o = inside-earlier _ _ _ _ _ (o .pre .1) (later-inside o)
 
 earlier-in : (o : tie.Start) → o .args .earlier < cellCount (o .args .v)
 earlier-in o =
-    earlier-inside (now (o .args .text)) (o .args .v) (now (o .args .pattern)) (o .pre .0) (o .args .later)
+    earlier-inside (now (o .args .text)) (o .args .v) (placed (now (o .args .pattern)) (o .args .g)) (o .pre .0) (o .args .later)
     (o .args .earlier) (o .pre .1 .end-is) (earlier-is o)
 
 -- the record's bytes are those of the window
@@ -39,17 +40,17 @@ bytes : (c : tie.After-mismatch-body) →
     let a = c .before .before .before .before .before .before .args in
     bytesOf (mismatchRecord (eqb (c .before .before .pattern-at .result) (c .before .pattern-at2 .result))
     (c .mismatch-body .result))
-    ≡ bytesAll (entryAt (now (a .text)) (now (a .pattern)) (a .v))
+    ≡ bytesAll (entryAt (now (a .text)) (placed (now (a .pattern)) (a .g)) (a .v))
 bytes c =
     let o = c .before .before .before .before .before .before in
     let alike = eqb (c .before .before .pattern-at .result) (c .before .pattern-at2 .result) in
-    refused-bytes (now (o .args .text)) (o .args .v) (now (o .args .pattern)) (o .pre .0) _ _ (o .pre .1 .end-is) alike _
+    refused-bytes (now (o .args .text)) (o .args .v) (placed (now (o .args .pattern)) (o .args .g)) (o .pre .0) _ _ (o .pre .1 .end-is) alike _
     (earlier-is o) (ap₂ eqb (c .before .before .pattern-at .ensures) (c .before .pattern-at2 .ensures))
     (ap (mismatchRecord alike) (c .mismatch-body .ensures))
 
 -- there are seven of them
-sized : (o : tie.Start) → 7 ≡ length (bytesAll (entryAt (now (o .args .text)) (now (o .args .pattern)) (o .args .v)))
-sized o = refused-length (now (o .args .text)) (o .args .v) (now (o .args .pattern)) (o .pre .0 .none)
+sized : (o : tie.Start) → 7 ≡ length (bytesAll (entryAt (now (o .args .text)) (placed (now (o .args .pattern)) (o .args .g)) (o .args .v)))
+sized o = refused-length (now (o .args .text)) (o .args .v) (placed (now (o .args .pattern)) (o .args .g)) (o .pre .0 .none)
 
 pattern-at-requires : tie.Need-pattern-at-requires
 pattern-at-requires c κs = let o = c .before .before .before in omega (arith, earlier-in o, o .pre .0 .size)

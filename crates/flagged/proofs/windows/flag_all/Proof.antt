@@ -4,10 +4,12 @@
 -- Assumes nothing.
 use native.Mathlib.Omega.{arith}
 use denote.Ref.{now}
+use Rattle.placed.specs.Placing.{placed}
 use Rattle.refusals.specs.Said.Laws.{same-buffer}
 use Rattle.flags.specs.Flags.Laws.{strip-small}
 use Rattle.alike.specs.Pairs.{pairs-none}
-use Rattle.flags.specs.Flags.Laws.{cells-some, cells-few}
+use Rattle.sweep.specs.Sweep.Runs.{cells-some}
+use Rattle.flags.specs.Flags.Laws.{cells-few}
 use Rattle.flagged.specs.Steps.{counts-there, counts-long, counts-over, flags-over, links-over, marks-over}
 use borrow.Author.Needs.{needs}
 use Rattle.flagged.proofs.windows.flag_all.Statement.{statement}
@@ -104,12 +106,12 @@ returns c =
     let k = asked (w .before) in
     let a = entry k .args in
     let r = entry k .pre .0 in (
-      marks-over (now (a .text)) (now (a .pattern)) (a .s) _ _
+      marks-over (now (a .text)) (placed (now (a .pattern)) (a .g)) (a .s) _ _
           (links-over _ (now (a .links)) _ _ (r .links-room) (w .flag-windows .ensures .1 .0)
           (c .before .before .clear-links .ensures))
           (counts-over (now (a .text)) (a .s) (now (a .counts)) _ (r .shape) (r .counts-room)
           (same-buffer (k .distinct-counts .ensures)))
-          (flags-over (now (a .text)) (now (a .pattern)) (a .s) (now (a .flags)) _ (let v = r .shape in omega arith)
+          (flags-over (now (a .text)) (placed (now (a .pattern)) (a .g)) (a .s) (now (a .flags)) _ (let v = r .shape in omega arith)
           (r .flags-room) (w .flag-windows .ensures .0)),
       w .flag-windows .ensures .1 .1,
     )

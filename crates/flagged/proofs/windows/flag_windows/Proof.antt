@@ -7,6 +7,7 @@ use Prim.Native.Nat.{_+_, _-_, _*_, _≤_}
 use native.Mathlib.Numerals.{add-one}
 use lib.ListN.{length}
 use denote.Ref.{now}
+use Rattle.placed.specs.Placing.{placed}
 use Rattle.theory.specs.Store.{storedRows}
 use Rattle.theory.specs.Store.Laws.{rows-none, length-rows, rows-more}
 use Rattle.shapes.specs.Shapes.{across, down}
@@ -18,12 +19,12 @@ use Rattle.flagged.proofs.windows.flag_windows.Statement.{statement}
 use Rattle.flagged.proofs.windows.flag_windows.Tie as tie
 
 abbrev Inv-loop : tie.InvT-loop
-Inv-loop text pattern first selves₀ earlies₀ earlier later symbols s counts links₀ flags₀ wide left₀ selves earlies links flags left =
-    (left ≤ wide) × (flags ≡ storedRows (flagOf text pattern s) (λ left top. top * across s + left) left (down s)
-    flags₀) × RestKept (s .rows * s .width) links₀ links × OwnSoFar pattern (s .width) (down s) selves earlies
+Inv-loop text pattern g first selves₀ earlies₀ earlier later symbols s counts links₀ flags₀ wide left₀ selves earlies links flags left =
+    (left ≤ wide) × (flags ≡ storedRows (flagOf text (placed pattern g) s) (λ left top. top * across s + left) left (down s)
+    flags₀) × RestKept (s .rows * s .width) links₀ links × OwnSoFar (placed pattern g) (s .width) (down s) selves earlies
 
 abbrev μ-loop : tie.MeasureT-loop
-μ-loop text pattern first selves₀ earlies₀ earlier later symbols s counts links₀ flags₀ wide left₀ selves earlies links flags left =
+μ-loop text pattern g first selves₀ earlies₀ earlier later symbols s counts links₀ flags₀ wide left₀ selves earlies links flags left =
     wide - left
 
 length-flags : (c : tie.At-loop Inv-loop μ-loop)
@@ -64,7 +65,7 @@ loop-again c =
     let i = c .before .before .before .before .before .before .before .before .before .before .loop in
     let e = c .before .before .before .before .flag-column .ensures in (
       omega (arith, c .before .before .before .before .before .before .before .before .before .loop-test .taken),
-      rw (add-one (i .left)) (rows-more (flagOf (now (a .text)) (now (a .pattern)) (a .s))
+      rw (add-one (i .left)) (rows-more (flagOf (now (a .text)) (placed (now (a .pattern)) (a .g)) (a .s))
           (λ left top. top * across (a .s) + left) _ _ _ _ _ (i .inv .1) (e .0)),
       kept-then _ _ _ _ (i .inv .2) (e .1 .0),
       e .1 .1,

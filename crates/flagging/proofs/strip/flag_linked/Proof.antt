@@ -5,7 +5,7 @@ use mathlib.Core.Path.{refl}
 use native.Mathlib.Omega.{arith}
 use denote.Ref.{now}
 use Rattle.refusals.specs.Said.Laws.{same-buffer}
-use Rattle.sweep.specs.Sweep.Runs.{sides-of}
+use Rattle.sweep.specs.Sweep.Runs.{sides-of, cells-some}
 use Rattle.flagging.specs.Links.{strip-links-written, strip-links-kept}
 use Rattle.flagging.specs.Windows.{own-from, match-clear}
 use borrow.Author.Needs.{needs}
@@ -21,26 +21,30 @@ add-windows c = omega (arith, c .before .before .before .before .before .before 
 sub-windows : tie.Need-sub-windows
 sub-windows c = omega (arith, c .before .before .before .before .before .before .before .before .before .before .before .pre .0 .room .shape)
 
+pattern-cells-requires : tie.Need-pattern-cells-requires
+pattern-cells-requires c κs = let r = c .before .before .before .before .before .before .before .before .before .before .before .before .before .pre .0 .room in cells-some _ _ _ (r .shape) (r .size)
+
 lengthen-ends-requires : tie.Need-lengthen-ends-requires
 lengthen-ends-requires c κs =
-    let o = c .before .before .before .before .before .before .before .before .before .before .before .before .before in
+    let o = c .before .before .before .before .before .before .before .before .before .before .before .before .before .before in
     let w = o .pre .2 in
-    (sides-of (now (o .args .text)) _ _ (w .shape) (w .cells), w .places, w .owns, omega arith)
+    (sides-of (now (o .args .text)) _ _ (w .shape) (w .cells), w .places, w .owns, omega (arith, c .pattern-cells .ensures))
 
 flag-strip-requires : tie.Need-flag-strip-requires
 flag-strip-requires c κs =
-    let o = c .before .before .before .before .before .before .before .before .before .before .before .before .before .before .before .before .before in
+    let o = c .before .before .before .before .before .before .before .before .before .before .before .before .before .before .before .before .before .before in
     let r = o .pre .0 .room in
-    let made = c .before .before .before .lengthen-ends .ensures in (
+    let made = c .before .before .before .lengthen-ends .ensures in
+    let all = c .before .before .before .before .pattern-cells .ensures in (
       record {
         shape = record { sized = r .shape .sized; cells-is = refl };
         size = r .size;
-        links-room = omega (arith, r .links-room, c .before .before .before .before .before .before .before .before .before .links .given);
+        links-room = omega (arith, r .links-room, c .before .before .before .before .before .before .before .before .before .before .links .given);
         counts-room = r .counts-room;
         flags-room = r .flags-room;
       },
       o .pre .1,
-      own-from _ _ _ _ _ _ (o .pre .2 .places) (made .0) (made .1),
+      own-from _ _ _ _ _ _ (o .pre .2 .places) (made .0) (omega (arith, all, made .1)),
       o .pre .3,
       o .pre .4,
     )
@@ -53,10 +57,10 @@ same-length-2 c = search needs
 
 returns : tie.Need-returns
 returns c =
-    let o = c .before .before .before .before .before .before .before .before .before .before .before .before .before .before .before .before .before .before .before .before in
+    let o = c .before .before .before .before .before .before .before .before .before .before .before .before .before .before .before .before .before .before .before .before .before in
     let r = o .pre .0 in
     let a = o .args in
-    let e = same-buffer (c .before .before .before .before .before .before .before .before .before .before .before .before .before .strip-links .ensures) in (
+    let e = same-buffer (c .before .before .before .before .before .before .before .before .before .before .before .before .before .before .strip-links .ensures) in (
       c .before .before .flag-strip .ensures .written (now (a .text))
           (record {
             shape = r .room .shape;
@@ -80,6 +84,7 @@ flag-linked-spec =
     strip-links-requires
     add-windows
     sub-windows
+    pattern-cells-requires
     lengthen-ends-requires
     flag-strip-requires
     same-length

@@ -4,24 +4,26 @@
 use mathlib.Core.Path.{refl}
 use native.Mathlib.Omega.{arith}
 use Prim.Native.Nat.{_+_, _-_, _*_, _≤_, _<_}
+use Rattle.placed.specs.Placing.{placed}
 use Rattle.shapes.specs.Shapes.{across, down}
 use Rattle.shapes.specs.Shapes.Laws.{product-le}
 use Rattle.counts.specs.Counts.Laws.{place-lt, windows-small}
+use Rattle.sweep.specs.Sweep.Runs.{cells-some}
 use Rattle.flags.specs.Flags.Laws.{cells-few}
 use Rattle.flagging.specs.Windows.{WindowsTo, windows-first, windows-ask, windows-more, windows-flagged}
 use Rattle.flagging.proofs.strip.flag_strip.Statement.{statement}
 use Rattle.flagging.proofs.strip.flag_strip.Tie as tie
 
 abbrev Inv-loop : tie.InvT-loop
-Inv-loop pattern first selves symbols s left from counts links flags₀ wide tall row₀ reached₀ top₀ flags row reached top =
-    WindowsTo pattern symbols s left from counts links flags₀ row reached top flags
+Inv-loop pattern g first selves symbols s left from counts links flags₀ wide tall row₀ reached₀ top₀ flags row reached top =
+    WindowsTo (placed pattern g) symbols s left from counts links flags₀ row reached top flags
 
 abbrev μ-loop : tie.MeasureT-loop
-μ-loop pattern first selves symbols s left from counts links flags₀ wide tall row₀ reached₀ top₀ flags row reached top =
+μ-loop pattern g first selves symbols s left from counts links flags₀ wide tall row₀ reached₀ top₀ flags row reached top =
     tall - top
 
 abbrev entry : tie.In-loop Inv-loop μ-loop → tie.Start Inv-loop μ-loop
-entry c = c .before .before .before .before .before .before .before .before .before .before .before
+entry c = c .before .before .before .before .before .before .before .before .before .before .before .before
 
 -- the place of the window whose flag is written
 place-in : (c : tie.In-loop Inv-loop μ-loop) → let a = entry c .args in
@@ -59,13 +61,16 @@ sub-row c = omega (arith, c .before .before .before .before .before .before .bef
 mul-reached : tie.Need-mul-reached Inv-loop μ-loop
 mul-reached c = omega (arith, row-small (c .before .before .before .before .before .before .before .before .before))
 
+pattern-cells-requires : tie.Need-pattern-cells-requires Inv-loop μ-loop
+pattern-cells-requires c κs = let o = c .before .before .before .before .before .before .before .before .before in cells-some (o .args .s) _ _ (o .pre .0 .shape) (o .pre .0 .size)
+
 add-reached : tie.Need-add-reached Inv-loop μ-loop
-add-reached c = let o = c .before .before .before .before .before .before .before .before .before in omega (arith, row-small o, cells-few (o .args .s) _ _ (o .pre .0 .shape) (o .pre .0 .size))
+add-reached c = let o = c .before .before .before .before .before .before .before .before .before .before in omega (arith, c .pattern-cells .ensures, row-small o, cells-few (o .args .s) _ _ (o .pre .0 .shape) (o .pre .0 .size))
 
 loop-holds : tie.Need-loop-holds Inv-loop μ-loop
 loop-holds c =
-    let o = c .before .before .before .before .before .before .before .before .before in windows-first _ _ _ _ _ _ _ _ _ _
-    (o .pre .0) (o .pre .1) (o .pre .2) (o .pre .4)
+    let o = c .before .before .before .before .before .before .before .before .before .before in
+    rw (c .pattern-cells .ensures) (windows-first _ _ _ _ _ _ _ _ _ _ (o .pre .0) (o .pre .1) (o .pre .2) (o .pre .4))
 
 mul-k : tie.Need-mul-k Inv-loop μ-loop
 mul-k c = omega (arith, place-small c)
@@ -106,7 +111,7 @@ same-length c = c .before .loop .inv .long
 
 returns : tie.Need-returns Inv-loop μ-loop
 returns c =
-    let o = c .before .before .before .before .before .before .before .before .before .before .before in windows-flagged _ _ _ _ _ _ _
+    let o = c .before .before .before .before .before .before .before .before .before .before .before .before in windows-flagged _ _ _ _ _ _ _
     _ _ _ (o .pre .0) (o .pre .1) (o .pre .2) _ _ _ _ (omega (arith, c .loop-test .left)) (c .before .loop .inv)
 
 pub flag-strip-spec : {M : Type 1} → statement M
@@ -121,6 +126,7 @@ flag-strip-spec =
     sub-down
     sub-row
     mul-reached
+    pattern-cells-requires
     add-reached
     loop-holds
     mul-k

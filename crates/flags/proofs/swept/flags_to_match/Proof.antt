@@ -7,6 +7,7 @@ use Prim.Native.Nat.{_+_, _-_, _*_, _<_}
 use lib.ListN.{length, length-set}
 use lib.Seq.{getD-set-same}
 use denote.Ref.{now}
+use Rattle.placed.specs.Placing.{placed}
 use Rattle.theory.specs.Older.Laws.{older-zeros}
 use Rattle.theory.specs.Store.Laws.{length-stored}
 use Rattle.shapes.specs.Shapes.{across, down}
@@ -17,11 +18,11 @@ use Rattle.flags.proofs.swept.flags_to_match.Statement.{statement}
 use Rattle.flags.proofs.swept.flags_to_match.Tie as tie
 
 abbrev Inv-loop : tie.InvT-loop
-Inv-loop text pattern first earlier later symbols s left counts selves₀ earlies₀ flags₀ wide tall last₀ row₀ reached₀ top₀ selves earlies flags last row reached top =
-    SweptTo text pattern s left flags₀ last selves earlies row reached top flags
+Inv-loop text pattern g first earlier later symbols s left counts selves₀ earlies₀ flags₀ wide tall last₀ row₀ reached₀ top₀ selves earlies flags last row reached top =
+    SweptTo text (placed pattern g) s left flags₀ last selves earlies row reached top flags
 
 abbrev μ-loop : tie.MeasureT-loop
-μ-loop text pattern first earlier later symbols s left counts selves₀ earlies₀ flags₀ wide tall last₀ row₀ reached₀ top₀ selves earlies flags last row reached top =
+μ-loop text pattern g first earlier later symbols s left counts selves₀ earlies₀ flags₀ wide tall last₀ row₀ reached₀ top₀ selves earlies flags last row reached top =
     tall - top
 
 abbrev entry : tie.In-loop Inv-loop μ-loop → tie.Start Inv-loop μ-loop

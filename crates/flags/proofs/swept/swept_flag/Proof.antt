@@ -4,7 +4,7 @@
 use native.Mathlib.Omega.{arith}
 use borrow.Author.Tests.{not-true}
 use Rattle.shapes.specs.Shapes.Laws.{product-le}
-use Rattle.sweep.specs.Sweep.Runs.{run-past, run-anew}
+use Rattle.sweep.specs.Sweep.Runs.{run-past, run-anew, cells-some}
 use Rattle.flags.specs.Flags.Swept.{told-by-count, told-by-pairs, told-by-end}
 use Rattle.flags.proofs.swept.swept_flag.Statement.{statement}
 use Rattle.flags.proofs.swept.swept_flag.Tie as tie
@@ -41,7 +41,7 @@ fresh-flag-requires : tie.Need-fresh-flag-requires
 fresh-flag-requires c κs =
     let o = c .before .before .before .before .before .before .before .before in
     let anew = run-anew _ _ _ _ _ _ _ (o .pre .0) (o .pre .1) _ _ _ _ (o .pre .2) (o .pre .4) (c .before .if3 .taken) in
-    record { reach = anew .0; small = anew .1; size = o .pre .0 .cells }
+    record { reach = anew .0; small = anew .1; size = o .pre .0 .cells; some = cells-some _ _ _ (o .pre .0 .shape) (o .pre .0 .cells) }
 
 returns-3 : tie.Need-returns-3
 returns-3 c =

@@ -14,8 +14,8 @@ mul-start c = search needs
 linked-end-requires : tie.Need-linked-end-requires
 linked-end-requires c κs = anew-asks _ _ _ _ _ _ _ _ (c .before .before .before .pre)
 
-add-t14 : tie.Need-add-t14
-add-t14 c = search needs
+add-t15 : tie.Need-add-t15
+add-t15 c = search needs
 
 returns : tie.Need-returns
 returns c = window-anew _ _ _ _ _ _ _ _ (c .before .before .before .before .pre) _ (c .linked-end .ensures)
@@ -45,8 +45,8 @@ linked-end-requires-2 c κs =
     onward-asks _ _ _ _ _ _ _ _ (c .before .before .before .before .before .pre)
     (omega (arith, c .before .before .if1 .left)) _ refl (omega (arith, c .if2 .left))
 
-add-t19 : tie.Need-add-t19
-add-t19 c = search needs
+add-t20 : tie.Need-add-t20
+add-t20 c = search needs
 
 returns-3 : tie.Need-returns-3
 returns-3 c =
@@ -60,7 +60,7 @@ next-linked-spec =
     (tie.spec
     mul-start
     linked-end-requires
-    add-t14
+    add-t15
     returns
     sub-own
     mul-own
@@ -69,5 +69,5 @@ next-linked-spec =
     returns-2
     sub-linked-end
     linked-end-requires-2
-    add-t19
+    add-t20
     returns-3)

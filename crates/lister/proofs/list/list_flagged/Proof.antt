@@ -7,6 +7,8 @@ use native.Mathlib.Omega.{arith}
 use lib.Dec.{leb}
 use lib.ListN.{length}
 use denote.Ref.{now}
+use Rattle.placed.specs.Placing.{placed}
+use Rattle.placed.specs.Placing.Laws.{placed-bytes}
 use Rattle.refusals.specs.Said.{Said, _then_, checkWith, outcomeSaid}
 use Rattle.totals.specs.Totalled.{listing-fits}
 use Rattle.lister.specs.Steps.{passed, listing-stopped, listing-written}
@@ -44,14 +46,14 @@ write-listing-requires c κs =
     let r = t .before .before in
     let o = entry r in
     let a = o .args in
-    let p = passed (now (a .text)) (now (a .pattern)) (a .s) (a .judged) (now (a .flags)) (a .totals) (o .pre .0)
+    let p = passed (now (a .text)) (placed (now (a .pattern)) (a .g)) (a .s) (a .judged) (now (a .flags)) (a .totals) (o .pre .0)
     (now (a .listing)) _ (chain r) (t .enum-told .given .1) in
     let sums = o .pre .0 .totalled (p .0) in (
       o .pre .0 .flagged (p .0),
       sums .found-is,
       sums .refused-is,
-      listing-fits (now (a .text)) (now (a .pattern)) (a .s) _ _ _ _ sums
-          (λ k. omega (arith, r .before .before .before .before .before .before .shared-slice-known2 .given k)) (p .1),
+      listing-fits (now (a .text)) (placed (now (a .pattern)) (a .g)) (a .s) _ _ _ _ sums
+          (placed-bytes (now (a .pattern)) (a .g) (λ k. omega (arith, r .before .before .before .before .before .before .shared-slice-known2 .given k))) (p .1),
       o .pre .1,
       o .pre .2,
       o .pre .3,
@@ -62,7 +64,7 @@ returns c =
     let r = c .before .before .before in
     let o = entry r in
     let a = o .args in
-    listing-stopped (now (a .text)) (now (a .pattern)) (a .s) (a .judged) (now (a .flags)) (a .totals) (o .pre .0)
+    listing-stopped (now (a .text)) (placed (now (a .pattern)) (a .g)) (a .s) (a .judged) (now (a .flags)) (a .totals) (o .pre .0)
     (now (a .listing)) _ (chain r) _ (c .before .outcome .given .1)
 
 same-length : tie.Need-same-length
@@ -74,7 +76,7 @@ returns-2 c =
     let r = t .before .before in
     let o = entry r in
     let a = o .args in
-    listing-written (now (a .text)) (now (a .pattern)) (a .s) (a .judged) (now (a .flags)) (a .totals) (o .pre .0)
+    listing-written (now (a .text)) (placed (now (a .pattern)) (a .g)) (a .s) (a .judged) (now (a .flags)) (a .totals) (o .pre .0)
     (now (a .listing)) _ (chain r) (t .enum-told .given .1) _ (c .before .before .write-listing .ensures)
 
 pub list-flagged-spec : {M : Type 1} → statement M

@@ -12,6 +12,7 @@ use Rattle.refusals.specs.Said.{Said, _then_, filledBy}
 use Rattle.shapes.specs.Questions.{asked}
 use Rattle.counts.specs.Counts.Laws.{windows-small}
 use Rattle.sweep.specs.Sweep.Own.{own-unmade}
+use Rattle.sweep.specs.Sweep.Runs.{cells-some}
 use Rattle.entries.specs.Listing.{searchListing}
 use Rattle.totals.specs.Pattern.{front-symbols, front-inside}
 use Rattle.searched.specs.Search.{listedSaid}
@@ -55,7 +56,8 @@ no-symbols-requires c κs = search needs
 read-pattern-requires : tie.Need-read-pattern-requires
 read-pattern-requires c κs =
     let n = c .before .before in
-    (zeros-long _ (n .before .no-positions .ensures), zeros-long _ (n .no-symbols .ensures))
+    let o = c .before .before .before .before .before .before .before .before .before .before .before .before in
+    (zeros-long _ (n .before .no-positions .ensures), zeros-long _ (n .no-symbols .ensures), cells-some (o .args .s) _ _ (o .pre .0 .shape) (o .pre .0 .size))
 
 no-positions-requires-2 : tie.Need-no-positions-requires-2
 no-positions-requires-2 c κs = search needs

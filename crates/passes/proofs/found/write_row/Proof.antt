@@ -7,6 +7,7 @@ use Prim.Native.Nat.{ℕ, _+_, _-_, _*_, _≤_, _<_}
 use lib.ListN.{length}
 use borrow.Author.Needs.{needs}
 use denote.Ref.{now}
+use Rattle.placed.specs.Placing.{placed}
 use Rattle.shapes.specs.Shapes.{across, down}
 use Rattle.counts.specs.Counts.Laws.{place-lt, windows-small}
 use Rattle.listing.specs.Entries.Put.{Puts, startOf, start-next, puts-room}
@@ -17,13 +18,13 @@ use Rattle.passes.proofs.found.write_row.Statement.{statement}
 use Rattle.passes.proofs.found.write_row.Tie as tie
 
 abbrev Inv-loop : tie.InvT-loop
-Inv-loop text pattern s top listed offsets flags listing₀ start wide first at₀ left₀ listing at left =
-    (left ≤ wide) × (at ≡ startOf (pieceOf text pattern s) (top * across s + left)) ×
-    Puts (pieceOf text pattern s) (down s * across s) (FoundIn flags (top * across s) (top * across s + left)) listing₀
+Inv-loop text pattern g s top listed offsets flags listing₀ start wide first at₀ left₀ listing at left =
+    (left ≤ wide) × (at ≡ startOf (pieceOf text (placed pattern g) s) (top * across s + left)) ×
+    Puts (pieceOf text (placed pattern g) s) (down s * across s) (FoundIn flags (top * across s) (top * across s + left)) listing₀
     listing
 
 abbrev μ-loop : tie.MeasureT-loop
-μ-loop text pattern s top listed offsets flags listing₀ start wide first at₀ left₀ listing at left = wide - left
+μ-loop text pattern g s top listed offsets flags listing₀ start wide first at₀ left₀ listing at left = wide - left
 
 abbrev entry : tie.In-loop Inv-loop μ-loop → tie.Start Inv-loop μ-loop
 entry c = c .before .before .before .before .before .before .before .before .before
@@ -60,7 +61,7 @@ loop-holds c = let o = c .before .before .before .before .before .before .before
     let a = o .args in
     let z : a .top * across (a .s) ≡ a .top * across (a .s) + 0 = omega arith in (
       omega arith,
-      o .pre .3 ∙ ap (startOf (pieceOf (now (a .text)) (now (a .pattern)) (a .s))) z,
+      o .pre .3 ∙ ap (startOf (pieceOf (now (a .text)) (placed (now (a .pattern)) (a .g)) (a .s))) z,
       none-put _ _ _ _ _ _
           (omega arith),
     )
@@ -81,15 +82,15 @@ write-if-found-requires c κs = let i = c .before .before .before in
     let l = i .before .loop in
     let b : l .left < across (a .s) = i .loop-test .taken in
     let here = c .before .strip-window .ensures in (
-      answered (now (a .text)) (now (a .pattern)) (a .s) (now (a .flags)) (now (a .listed)) (now (a .offsets))
+      answered (now (a .text)) (placed (now (a .pattern)) (a .g)) (a .s) (now (a .flags)) (now (a .listed)) (now (a .offsets))
           (o .pre .0)
           (o .pre .1) (a .top * across (a .s) + l .left) (place-in i) _
-          (strip-window (now (a .text)) (now (a .pattern)) (a .s) (l .left) (a .top) b _ here),
+          (strip-window (now (a .text)) (placed (now (a .pattern)) (a .g)) (a .s) (l .left) (a .top) b _ here),
       omega (
         arith,
         l .inv .1,
-        ap length (strip-piece (now (a .text)) (now (a .pattern)) (a .s) (l .left) (a .top) b _ here),
-        puts-room (pieceOf (now (a .text)) (now (a .pattern)) (a .s)) (down (a .s) * across (a .s)) _ _ _ (o .pre .4)
+        ap length (strip-piece (now (a .text)) (placed (now (a .pattern)) (a .g)) (a .s) (l .left) (a .top) b _ here),
+        puts-room (pieceOf (now (a .text)) (placed (now (a .pattern)) (a .g)) (a .s)) (down (a .s) * across (a .s)) _ _ _ (o .pre .4)
             (l .inv .2) (a .top * across (a .s) + l .left) (place-in i),
       ),
     )
@@ -110,11 +111,11 @@ loop-again c = let i = c .before .before .before .before .before .before in
     let w = c .before .before .write-if-found .ensures in
     let k = a .top * across (a .s) + l .left in
     let n : a .top * across (a .s) + (l .left + 1) ≡ k + 1 = omega arith in
-    let x = strip-piece (now (a .text)) (now (a .pattern)) (a .s) (l .left) (a .top) (i .loop-test .taken) _
+    let x = strip-piece (now (a .text)) (placed (now (a .pattern)) (a .g)) (a .s) (l .left) (a .top) (i .loop-test .taken) _
     (c .before .before .before .before .strip-window .ensures) in (
       omega (arith, i .loop-test .taken),
-      start-next (pieceOf (now (a .text)) (now (a .pattern)) (a .s)) k _ (l .at) _ _ (l .inv .1) x n (w .0),
-      found-more (pieceOf (now (a .text)) (now (a .pattern)) (a .s)) (down (a .s) * across (a .s)) (now (a .flags)) _ _
+      start-next (pieceOf (now (a .text)) (placed (now (a .pattern)) (a .g)) (a .s)) k _ (l .at) _ _ (l .inv .1) x n (w .0),
+      found-more (pieceOf (now (a .text)) (placed (now (a .pattern)) (a .g)) (a .s)) (down (a .s) * across (a .s)) (now (a .flags)) _ _
           (o .pre .4) _ k _ _ (l .at) _ _ (l .inv .2) (place-in i) n refl (l .inv .1) x (w .1),
     )
 
@@ -126,8 +127,8 @@ returns c = let o = c .before .before .before .before .before .before .before .b
     let a = o .args in
     let l = c .before .loop in
     let e = row-over (a .top) (across (a .s)) (l .left) (omega (arith, c .loop-test .left, l .inv .0)) in (
-      l .inv .1 ∙ ap (startOf (pieceOf (now (a .text)) (now (a .pattern)) (a .s))) e,
-      subst (λ (n : ℕ). Puts (pieceOf (now (a .text)) (now (a .pattern)) (a .s)) (down (a .s) * across (a .s))
+      l .inv .1 ∙ ap (startOf (pieceOf (now (a .text)) (placed (now (a .pattern)) (a .g)) (a .s))) e,
+      subst (λ (n : ℕ). Puts (pieceOf (now (a .text)) (placed (now (a .pattern)) (a .g)) (a .s)) (down (a .s) * across (a .s))
           (FoundIn (now (a .flags)) (a .top * across (a .s)) n) (now (a .listing)) (l .listing)) e (l .inv .2),
     )
 

@@ -6,6 +6,7 @@ use native.Mathlib.Omega.{arith}
 use native.Mathlib.Nat.{zero-mul}
 use Prim.Native.Nat.{ℕ, _-_, _*_, _≤_}
 use denote.Ref.{now}
+use Rattle.placed.specs.Placing.{placed}
 use Rattle.shapes.specs.Shapes.{across, down}
 use Rattle.listing.specs.Entries.Put.{Puts, Heads, startOf, start-zero, rows-none, rows-more}
 use Rattle.passes.specs.Strips.{pieceOf, FoundIn, none-put, rows-found}
@@ -13,13 +14,13 @@ use Rattle.passes.proofs.found.write_rows.Statement.{statement}
 use Rattle.passes.proofs.found.write_rows.Tie as tie
 
 abbrev Inv-loop : tie.InvT-loop
-Inv-loop text pattern s listed offsets flags heads₀ listing₀ tall at₀ top₀ heads listing at top =
-    (top ≤ tall) × (at ≡ startOf (pieceOf text pattern s) (top * across s))
-    × Heads (pieceOf text pattern s) (across s) top 0 heads ×
-    Puts (pieceOf text pattern s) (down s * across s) (FoundIn flags 0 (top * across s)) listing₀ listing
+Inv-loop text pattern g s listed offsets flags heads₀ listing₀ tall at₀ top₀ heads listing at top =
+    (top ≤ tall) × (at ≡ startOf (pieceOf text (placed pattern g) s) (top * across s))
+    × Heads (pieceOf text (placed pattern g) s) (across s) top 0 heads ×
+    Puts (pieceOf text (placed pattern g) s) (down s * across s) (FoundIn flags 0 (top * across s)) listing₀ listing
 
 abbrev μ-loop : tie.MeasureT-loop
-μ-loop text pattern s listed offsets flags heads₀ listing₀ tall at₀ top₀ heads listing at top = tall - top
+μ-loop text pattern g s listed offsets flags heads₀ listing₀ tall at₀ top₀ heads listing at top = tall - top
 
 abbrev entry : tie.In-loop Inv-loop μ-loop → tie.Start Inv-loop μ-loop
 entry c = c .before .before .before .before .before .before .before .before .before
@@ -35,8 +36,8 @@ loop-holds c = let o = c .before .before .before .before .before .before .before
     let a = o .args in
     let z : 0 * across (a .s) ≡ 0 = zero-mul (across (a .s)) in (
       omega arith,
-      sym (ap (startOf (pieceOf (now (a .text)) (now (a .pattern)) (a .s))) z
-          ∙ start-zero (pieceOf (now (a .text)) (now (a .pattern)) (a .s))),
+      sym (ap (startOf (pieceOf (now (a .text)) (placed (now (a .pattern)) (a .g)) (a .s))) z
+          ∙ start-zero (pieceOf (now (a .text)) (placed (now (a .pattern)) (a .g)) (a .s))),
       rows-none _ _ 0 0 _ (o .pre .2),
       none-put _ _ _ _ _ _ (omega (arith, z)),
     )
@@ -82,7 +83,7 @@ returns c = let o = c .before .before .before .before .before .before .before .b
       rw e at (l .inv .1),
       (
         rw e at (l .inv .2),
-        subst (λ (n : ℕ). Puts (pieceOf (now (a .text)) (now (a .pattern)) (a .s))
+        subst (λ (n : ℕ). Puts (pieceOf (now (a .text)) (placed (now (a .pattern)) (a .g)) (a .s))
             (down (a .s) * across (a .s)) (FoundIn (now (a .flags)) 0 (n * across (a .s))) (now (a .listing))
             (l .listing)) e
             (l .inv .3),

@@ -9,6 +9,7 @@ use mathlib.Core.List.{List}
 use lib.ListN.{length, getD}
 use denote.Ref.{now}
 use borrow.Author.Needs.{needs}
+use Rattle.placed.specs.Placing.{placed}
 use Rattle.theory.specs.Older.Laws.{older-zeros}
 use Rattle.shapes.specs.Shapes.{across, down}
 use Rattle.counts.specs.Counts.Laws.{place-lt, windows-small}
@@ -23,15 +24,15 @@ use Rattle.passes.proofs.strips.write_strip.Statement.{statement}
 use Rattle.passes.proofs.strips.write_strip.Tie as tie
 
 abbrev Inv-loop : tie.InvT-loop
-Inv-loop text pattern s left flags size first selves₀ earlies₀ heads₀ listing₀ wide tall last₀ row₀ reached₀ top₀ selves
+Inv-loop text pattern g s left flags size first selves₀ earlies₀ heads₀ listing₀ wide tall last₀ row₀ reached₀ top₀ selves
     earlies heads listing last row reached top =
-    (top ≤ tall) × SweepAt text s pattern first selves earlies
-    × RunAt text (columnStrip s left) pattern last row reached top (s .height)
-    × HeadsTo (pieceOf text pattern s) (across s) (down s) left top heads ×
-    Puts (pieceOf text pattern s) (down s * across s) (RefusedHere flags (across s) left top) listing₀ listing
+    (top ≤ tall) × SweepAt text s (placed pattern g) first selves earlies
+    × RunAt text (columnStrip s left) (placed pattern g) last row reached top (s .height)
+    × HeadsTo (pieceOf text (placed pattern g) s) (across s) (down s) left top heads ×
+    Puts (pieceOf text (placed pattern g) s) (down s * across s) (RefusedHere flags (across s) left top) listing₀ listing
 
 abbrev μ-loop : tie.MeasureT-loop
-μ-loop text pattern s left flags size first selves₀ earlies₀ heads₀ listing₀ wide tall last₀ row₀ reached₀ top₀ selves
+μ-loop text pattern g s left flags size first selves₀ earlies₀ heads₀ listing₀ wide tall last₀ row₀ reached₀ top₀ selves
     earlies heads listing last row reached top = tall - top
 
 abbrev entry : tie.In-loop Inv-loop μ-loop → tie.Start Inv-loop μ-loop
@@ -55,30 +56,30 @@ place-small c = let o = entry c in omega (arith, place-in c, windows-small (o .a
 -- its row has come to it
 here : (c : tie.In-loop Inv-loop μ-loop) →
     let a = entry c .args in let l = c .before .loop in getD (l .heads) (l .top) 0
-    ≡ startOf (pieceOf (now (a .text)) (now (a .pattern)) (a .s)) (l .top * across (a .s) + a .left)
+    ≡ startOf (pieceOf (now (a .text)) (placed (now (a .pattern)) (a .g)) (a .s)) (l .top * across (a .s) + a .left)
 here c = let l = c .before .loop in column-here _ _ _ _ (l .top) (l .heads) (l .inv .3) (within c)
 
 -- and there is room for it
 room : (c : tie.In-loop Inv-loop μ-loop) →
     let a = entry c .args in let l = c .before .loop in let k = l .top * across (a .s) + a .left in
-    startOf (pieceOf (now (a .text)) (now (a .pattern)) (a .s)) k + length
-    (pieceOf (now (a .text)) (now (a .pattern)) (a .s) k) ≤ length (l .listing)
+    startOf (pieceOf (now (a .text)) (placed (now (a .pattern)) (a .g)) (a .s)) k + length
+    (pieceOf (now (a .text)) (placed (now (a .pattern)) (a .g)) (a .s) k) ≤ length (l .listing)
 room c =
     let o = entry c in
     let a = o .args in
     let l = c .before .loop in
-    puts-room (pieceOf (now (a .text)) (now (a .pattern)) (a .s)) (down (a .s) * across (a .s)) _ _ _ (o .pre .5)
+    puts-room (pieceOf (now (a .text)) (placed (now (a .pattern)) (a .g)) (a .s)) (down (a .s) * across (a .s)) _ _ _ (o .pre .5)
     (l .inv .4) (l .top * across (a .s) + a .left) (place-in c)
 
 -- a found window has size bytes
 sized : (c : tie.Then1 Inv-loop μ-loop) →
     let i = c .before .before .before in let a = entry i .args in let l = i .before .loop in a .size
-    ≡ length (pieceOf (now (a .text)) (now (a .pattern)) (a .s) (l .top * across (a .s) + a .left))
+    ≡ length (pieceOf (now (a .text)) (placed (now (a .pattern)) (a .g)) (a .s) (l .top * across (a .s) + a .left))
 sized c =
     let i = c .before .before .before in
     let o = entry i in
     let a = o .args in
-    found-length (now (a .text)) (now (a .pattern)) (a .s) (now (a .flags)) (o .pre .0) (a .size) (o .pre .3) _
+    found-length (now (a .text)) (placed (now (a .pattern)) (a .g)) (a .s) (now (a .flags)) (o .pre .0) (a .size) (o .pre .3) _
     (place-in i) (c .if1 .taken)
 
 add-wide : tie.Need-add-wide Inv-loop μ-loop
@@ -130,7 +131,7 @@ add-heads c = let i = c .before .before .before in
     omega (
       arith,
       here i,
-      found-small (now (a .text)) (now (a .pattern)) (a .s) (now (a .flags)) (o .pre .0) (a .size) (o .pre .3)
+      found-small (now (a .text)) (placed (now (a .pattern)) (a .g)) (a .s) (now (a .flags)) (o .pre .0) (a .size) (o .pre .3)
           (l .top * across (a .s) + a .left) (place-in i),
       place-small i,
     )
@@ -179,11 +180,11 @@ write-refused-requires c κs = let i = c .before .before .before .before .before
     let e = c .before .before .window-end .ensures .0 in
     let h = within i in
     let here-is = c .before .strip-window .ensures in
-    let w = strip-window (now (a .text)) (now (a .pattern)) (a .s) (a .left) (l .top) (o .pre .2) _ here-is in (
-      unmatched (now (a .text)) (now (a .pattern)) (a .s) (now (a .flags)) (o .pre .0)
+    let w = strip-window (now (a .text)) (placed (now (a .pattern)) (a .g)) (a .s) (a .left) (l .top) (o .pre .2) _ here-is in (
+      unmatched (now (a .text)) (placed (now (a .pattern)) (a .g)) (a .s) (now (a .flags)) (o .pre .0)
           (l .top * across (a .s) + a .left) (place-in i)
           (c .before .before .before .before .before .before .if1 .left) _ w,
-      strip-ended (now (a .text)) (now (a .pattern)) (a .s) (a .left) (l .top) (o .pre .2) _ here-is _ _
+      strip-ended (now (a .text)) (placed (now (a .pattern)) (a .g)) (a .s) (a .left) (l .top) (o .pre .2) _ here-is _ _
           (end-at _ _ _ _ _ _ _ (l .inv .1) (o .pre .2) _ _ _ _ h (l .inv .2) _ _ e)
           (earlier-at _ _ _ _ _ _ _ (l .inv .1) (o .pre .2) _ _ _ _ h (l .inv .2) _ _ e),
       omega (
@@ -191,7 +192,7 @@ write-refused-requires c κs = let i = c .before .before .before .before .before
         here i,
         room i,
         ap length
-            (strip-piece (now (a .text)) (now (a .pattern)) (a .s) (a .left) (l .top) (o .pre .2) _ here-is),
+            (strip-piece (now (a .text)) (placed (now (a .pattern)) (a .g)) (a .s) (a .left) (l .top) (o .pre .2) _ here-is),
       ),
     )
 
@@ -224,7 +225,7 @@ loop-again-2 c =
     let n = c .before .before .before .before .before .window-end .ensures in
     let h = within i in
     let w = c .before .before .write-refused .ensures in
-    let x = strip-piece (now (a .text)) (now (a .pattern)) (a .s) (a .left) (l .top) (o .pre .2) _
+    let x = strip-piece (now (a .text)) (placed (now (a .pattern)) (a .g)) (a .s) (a .left) (l .top) (o .pre .2) _
     (c .before .before .before .before .strip-window .ensures) in (
       omega (arith, i .loop-test .taken),
       sweep-with _ _ _ _ _ _ _ (l .inv .1) (o .pre .2) _ _ (n .1),
@@ -244,7 +245,7 @@ returns c = let o = c .before .before .before .before .before .before .before .b
     let e : l .top ≡ down (a .s) = omega (arith, c .loop-test .left, l .inv .0) in (
       column-over _ _ _ _ (l .top) (l .heads) (l .inv .3) (omega (arith, e)),
       (
-        subst (λ (n : ℕ). Puts (pieceOf (now (a .text)) (now (a .pattern)) (a .s)) (down (a .s) * across (a .s))
+        subst (λ (n : ℕ). Puts (pieceOf (now (a .text)) (placed (now (a .pattern)) (a .g)) (a .s)) (down (a .s) * across (a .s))
             (RefusedHere (now (a .flags)) (across (a .s)) (a .left) n) (now (a .listing)) (l .listing)) e (l .inv .4),
         l .inv .1 .owns,
       ),

@@ -5,6 +5,7 @@ use mathlib.Core.Path.{_≡_, subst}
 use native.Mathlib.Omega.{arith}
 use Prim.Native.Nat.{ℕ, _-_, _*_, _≤_}
 use denote.Ref.{now}
+use Rattle.placed.specs.Placing.{placed}
 use Rattle.shapes.specs.Shapes.{across, down}
 use Rattle.sweep.specs.Sweep.{SweepAt}
 use Rattle.sweep.specs.Sweep.Runs.{sweep-with}
@@ -14,13 +15,13 @@ use Rattle.passes.proofs.strips.write_strips.Statement.{statement}
 use Rattle.passes.proofs.strips.write_strips.Tie as tie
 
 abbrev Inv-loop : tie.InvT-loop
-Inv-loop text pattern s flags size first selves₀ earlies₀ heads₀ listing₀ wide left₀ selves earlies heads listing left =
-    (left ≤ wide) × SweepAt text s pattern first selves earlies
-    × Heads (pieceOf text pattern s) (across s) (down s) left heads ×
-    Puts (pieceOf text pattern s) (down s * across s) (RefusedIn flags (across s) (down s) left) listing₀ listing
+Inv-loop text pattern g s flags size first selves₀ earlies₀ heads₀ listing₀ wide left₀ selves earlies heads listing left =
+    (left ≤ wide) × SweepAt text s (placed pattern g) first selves earlies
+    × Heads (pieceOf text (placed pattern g) s) (across s) (down s) left heads ×
+    Puts (pieceOf text (placed pattern g) s) (down s * across s) (RefusedIn flags (across s) (down s) left) listing₀ listing
 
 abbrev μ-loop : tie.MeasureT-loop
-μ-loop text pattern s flags size first selves₀ earlies₀ heads₀ listing₀ wide left₀ selves earlies heads listing left =
+μ-loop text pattern g s flags size first selves₀ earlies₀ heads₀ listing₀ wide left₀ selves earlies heads listing left =
     wide - left
 
 abbrev entry : tie.In-loop Inv-loop μ-loop → tie.Start Inv-loop μ-loop
@@ -80,7 +81,7 @@ returns c =
     let a = o .args in
     let l = c .before .loop in
     let e : l .left ≡ across (a .s) = omega (arith, c .loop-test .left, l .inv .0) in
-    subst (λ (n : ℕ). Puts (pieceOf (now (a .text)) (now (a .pattern)) (a .s)) (down (a .s) * across (a .s))
+    subst (λ (n : ℕ). Puts (pieceOf (now (a .text)) (placed (now (a .pattern)) (a .g)) (a .s)) (down (a .s) * across (a .s))
     (RefusedIn (now (a .flags)) (across (a .s)) (down (a .s)) n) (now (a .listing)) (l .listing)) e (l .inv .3)
 
 pub write-strips-spec : {M : Type 1} → statement M

@@ -10,19 +10,19 @@ use borrow.Author.Needs.{needs}
 use Rattle.rows.proofs.rows.agrees_at.Statement.{statement}
 use Rattle.rows.proofs.rows.agrees_at.Tie as tie
 
-sub-pattern-at : tie.Need-sub-pattern-at
-sub-pattern-at c = search needs
+sub-plain-at : tie.Need-sub-plain-at
+sub-plain-at c = search needs
 
-sub-pattern-at-2 : tie.Need-sub-pattern-at-2
-sub-pattern-at-2 c = search needs
+sub-plain-at-2 : tie.Need-sub-plain-at-2
+sub-plain-at-2 c = search needs
 
-pattern-at-requires : tie.Need-pattern-at-requires
-pattern-at-requires c κs = search needs
+plain-at-requires : tie.Need-plain-at-requires
+plain-at-requires c κs = search needs
 
 returns : tie.Need-returns
 unfolding agreesAt
 returns c =
-    ap (λ (x : ℕ). eqb x (c .before .before .before .args .a)) (c .pattern-at .ensures)
+    ap (λ (x : ℕ). eqb x (c .before .before .before .args .a)) (c .plain-at .ensures)
     ∙ sym (pick-true _ _ (lt-ltb _ _ (c .before .if1 .taken)))
 
 mul-result : tie.Need-mul-result
@@ -39,9 +39,9 @@ pub agrees-at-spec : {M : Type 1} → statement M
 agrees-at-spec =
     tie.close
     (tie.spec
-    sub-pattern-at
-    sub-pattern-at-2
-    pattern-at-requires
+    sub-plain-at
+    sub-plain-at-2
+    plain-at-requires
     returns
     mul-result
     element-copy-out-result

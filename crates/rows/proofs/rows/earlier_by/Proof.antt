@@ -11,8 +11,8 @@ use borrow.Author.Needs.{needs}
 use Rattle.rows.proofs.rows.earlier_by.Statement.{statement}
 use Rattle.rows.proofs.rows.earlier_by.Tie as tie
 
-pattern-at-requires : tie.Need-pattern-at-requires
-pattern-at-requires c κs = search needs
+plain-at-requires : tie.Need-plain-at-requires
+plain-at-requires c κs = search needs
 
 cast-a : tie.Need-cast-a
 cast-a c = search needs
@@ -26,16 +26,16 @@ element-copy-out-a c = search needs
 returns : tie.Need-returns
 unfolding earlierBy
 returns c =
-    rw (c .before .before .pattern-at .ensures) (sym (pick-false _ _ (le-ltb _ _ (c .if1 .taken))))
+    rw (c .before .before .plain-at .ensures) (sym (pick-false _ _ (le-ltb _ _ (c .if1 .taken))))
 
-sub-pattern-at : tie.Need-sub-pattern-at
-sub-pattern-at c = search needs
+sub-plain-at : tie.Need-sub-plain-at
+sub-plain-at c = search needs
 
-sub-pattern-at-2 : tie.Need-sub-pattern-at-2
-sub-pattern-at-2 c = search needs
+sub-plain-at-2 : tie.Need-sub-plain-at-2
+sub-plain-at-2 c = search needs
 
-pattern-at-requires-2 : tie.Need-pattern-at-requires-2
-pattern-at-requires-2 c κs = search needs
+plain-at-requires-2 : tie.Need-plain-at-requires-2
+plain-at-requires-2 c κs = search needs
 
 cast-b : tie.Need-cast-b
 cast-b c = search needs
@@ -50,37 +50,37 @@ element-copy-out-b c = search needs
 lesser : (c : tie.Then2) → let a = c .before .before .before .before .before .before .before .args in
     getD (now (a .first)) (getD (now (a .pattern)) (a .p) 0) 0
     < getD (now (a .first)) (getD (now (a .pattern)) (a .near - 1 - a .start) 0) 0
-lesser c = rw (← c .before .before .before .before .before .pattern-at .ensures, ← c .before .before .pattern-at2 .ensures) (c .if2 .taken)
+lesser c = rw (← c .before .before .before .before .before .plain-at .ensures, ← c .before .before .plain-at2 .ensures) (c .if2 .taken)
 
 greater : (c : tie.Else2) → let a = c .before .before .before .before .before .before .before .args in
     getD (now (a .first)) (getD (now (a .pattern)) (a .near - 1 - a .start) 0) 0
     ≤ getD (now (a .first)) (getD (now (a .pattern)) (a .p) 0) 0
-greater c = rw (← c .before .before .before .before .before .pattern-at .ensures, ← c .before .before .pattern-at2 .ensures) (c .if2 .left)
+greater c = rw (← c .before .before .before .before .before .plain-at .ensures, ← c .before .before .plain-at2 .ensures) (c .if2 .left)
 
 returns-2 : tie.Need-returns-2
 unfolding earlierBy
 returns-2 c =
-    rw (c .before .before .before .before .before .pattern-at .ensures)
+    rw (c .before .before .before .before .before .plain-at .ensures)
     (sym (pick-true _ _ (lt-ltb _ _ (c .before .before .before .if1 .left)) ∙ pick-true _ _ (lt-ltb _ _ (lesser c))))
 
 returns-3 : tie.Need-returns-3
 unfolding earlierBy
 returns-3 c =
-    rw (c .before .before .pattern-at2 .ensures)
+    rw (c .before .before .plain-at2 .ensures)
     (sym (pick-true _ _ (lt-ltb _ _ (c .before .before .before .if1 .left)) ∙ pick-false _ _ (le-ltb _ _ (greater c))))
 
 pub earlier-by-spec : {M : Type 1} → statement M
 earlier-by-spec =
     tie.close
     (tie.spec
-    pattern-at-requires
+    plain-at-requires
     cast-a
     mul-a
     element-copy-out-a
     returns
-    sub-pattern-at
-    sub-pattern-at-2
-    pattern-at-requires-2
+    sub-plain-at
+    sub-plain-at-2
+    plain-at-requires-2
     cast-b
     mul-b
     element-copy-out-b

@@ -33,11 +33,11 @@ shared-slice-read-x c = omega arith
 cast-x : tie.Need-cast-x Inv-loop μ-loop
 cast-x c = omega (arith, byte (c .before))
 
-add-pattern-at : tie.Need-add-pattern-at Inv-loop μ-loop
-add-pattern-at c = omega arith
+add-plain-at : tie.Need-add-plain-at Inv-loop μ-loop
+add-plain-at c = omega arith
 
-pattern-at-requires : tie.Need-pattern-at-requires Inv-loop μ-loop
-pattern-at-requires c κs = omega arith
+plain-at-requires : tie.Need-plain-at-requires Inv-loop μ-loop
+plain-at-requires c κs = omega arith
 
 mul-agrees-at : tie.Need-mul-agrees-at Inv-loop μ-loop
 mul-agrees-at c = omega (arith, byte (c .before .before))
@@ -59,7 +59,7 @@ returns : tie.Need-returns Inv-loop μ-loop
 returns c =
     let i = c .before .before .before .before .before in
     let l = i .before .loop in
-    part-found _ _ _ _ _ _ (entry i .pre) (l .j) (l .last) (omega arith) (l .inv) _ _ _ refl (c .before .before .before .pattern-at .ensures) refl (byte i) _ (c .before .agrees-at .ensures) (not-true _ (c .if1 .taken))
+    part-found _ _ _ _ _ _ (entry i .pre) (l .j) (l .last) (omega arith) (l .inv) _ _ _ refl (c .before .before .before .plain-at .ensures) refl (byte i) _ (c .before .agrees-at .ensures) (not-true _ (c .if1 .taken))
 
 add-last : tie.Need-add-last Inv-loop μ-loop
 add-last c = omega arith
@@ -86,7 +86,7 @@ loop-again : tie.Need-loop-again Inv-loop μ-loop
 loop-again c =
     let i = c .before .before .before .before .before in
     let l = i .before .loop in
-    part-more _ _ _ _ _ _ (entry i .pre) (l .j) (l .last) (omega arith) (l .inv) _ _ _ refl (c .before .before .before .pattern-at .ensures) refl (byte i) _ (c .before .agrees-at .ensures) (not-false _ (c .if1 .left))
+    part-more _ _ _ _ _ _ (entry i .pre) (l .j) (l .last) (omega arith) (l .inv) _ _ _ refl (c .before .before .before .plain-at .ensures) refl (byte i) _ (c .before .agrees-at .ensures) (not-false _ (c .if1 .left))
 
 returns-2 : tie.Need-returns-2 Inv-loop μ-loop
 returns-2 c = part-all _ _ _ _ _ _ (c .before .before .before .before .pre) _ _ (omega arith) (c .before .loop .inv)
@@ -100,8 +100,8 @@ part-end-spec =
     loop-holds
     shared-slice-read-x
     cast-x
-    add-pattern-at
-    pattern-at-requires
+    add-plain-at
+    plain-at-requires
     mul-agrees-at
     element-copy-out-agrees-at
     add-agrees-at

@@ -7,9 +7,12 @@ use native.Mathlib.Omega.{arith}
 use lib.ListN.{getD}
 use lib.Seq.{length-take-le}
 use denote.Ref.{now}
+use Rattle.placed.specs.Placing.{placed}
+use Rattle.placed.specs.Placing.Laws.{placed-bytes}
 use Rattle.theory.specs.Older.Laws.{zeros-long}
 use Rattle.shapes.specs.Questions.{asked}
 use Rattle.sweep.specs.Sweep.Own.{own-unmade}
+use Rattle.sweep.specs.Sweep.Runs.{cells-some}
 use Rattle.flags.specs.Flags.{working}
 use Rattle.totals.specs.Pattern.{front-symbols, front-inside}
 use Rattle.searched.specs.Search.{lend}
@@ -26,8 +29,11 @@ abbrev entry : tie.After-count-flagged → tie.Start
 entry c = reading c .before .before .before .before .before .before .before .before .before .before .before
 
 -- the pattern is bytes
-bytes : (c : tie.After-count-flagged) (k : ℕ) → getD (now (entry c .args .pattern)) k 0 < 256
-bytes c k = omega (arith, reading c .before .before .before .before .before .before .before .before .before .shared-slice-known2 .given k)
+bytes : (c : tie.After-count-flagged) (k : ℕ) → let a = entry c .args in getD (placed (now (a .pattern)) (a .g)) k 0 < 256
+bytes c k =
+    let a = entry c .args in
+    placed-bytes (now (a .pattern)) (a .g)
+    (λ i. omega (arith, reading c .before .before .before .before .before .before .before .before .before .shared-slice-known2 .given i)) k
 
 no-positions-requires : tie.Need-no-positions-requires
 no-positions-requires c κs = search needs
@@ -38,7 +44,8 @@ no-symbols-requires c κs = search needs
 read-pattern-requires : tie.Need-read-pattern-requires
 read-pattern-requires c κs =
     let n = c .before .before in
-    (zeros-long _ (n .before .no-positions .ensures), zeros-long _ (n .no-symbols .ensures))
+    let o = c .before .before .before .before .before .before .before .before .before .before in
+    (zeros-long _ (n .before .no-positions .ensures), zeros-long _ (n .no-symbols .ensures), cells-some _ _ _ (o .pre .shape) (o .pre .size))
 
 no-positions-requires-2 : tie.Need-no-positions-requires-2
 no-positions-requires-2 c κs = search needs
@@ -74,7 +81,7 @@ list-flagged-requires c κs =
     let e = reading f .read-pattern .ensures in
     let first-step = f .count-flagged .ensures in (
       record {
-        flagged = λ _. flagged-after (now (a .text)) (now (a .pattern)) (a .s)
+        flagged = λ _. flagged-after (now (a .text)) (placed (now (a .pattern)) (a .g)) (a .s)
             (working (now (a .links)) (now (a .counts)) (now (a .flags))) _ (o .pre) (first-step .0);
         totalled = λ _. first-step .1 .0;
       },
@@ -99,7 +106,7 @@ returns : tie.Need-returns
 returns c =
     let f = c .before .before .before .before .before .before .before .before .before .before .before .before .before .before .before in
     let a = entry f .args in
-    steps-joined (asked (now (a .text)) (now (a .pattern)) (a .s))
+    steps-joined (asked (now (a .text)) (placed (now (a .pattern)) (a .g)) (a .s))
     (lend (now (a .links)) (now (a .counts)) (now (a .flags)) (now (a .listing))) _ (c .before .before .list-flagged .result) _ (f .count-flagged .ensures .0)
     (c .before .before .list-flagged .ensures)
 

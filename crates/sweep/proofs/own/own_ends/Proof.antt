@@ -5,6 +5,7 @@ use native.Mathlib.Omega.{arith}
 use Prim.Native.Nat.{_-_}
 use denote.Ref.{now}
 use borrow.Author.Needs.{needs}
+use Rattle.placed.specs.Placing.{placed}
 use Rattle.shapes.specs.Shapes.Laws.{product-le}
 use Rattle.theory.specs.Older.Laws.{older-zeros}
 use Rattle.sweep.specs.Sweep.Own.{OwnRun, own-first, own-asks, own-more, own-all}
@@ -12,11 +13,11 @@ use Rattle.sweep.proofs.own.own_ends.Statement.{statement}
 use Rattle.sweep.proofs.own.own_ends.Tie as tie
 
 abbrev Inv-loop : tie.InvT-loop
-Inv-loop pattern height width rows n first selves₀ earlies₀ s last₀ row₀ reached₀ top₀ selves earlies last row reached top =
-    OwnRun pattern height width rows last selves earlies row reached top
+Inv-loop pattern g height width rows n first selves₀ earlies₀ last₀ row₀ reached₀ top₀ selves earlies last row reached top =
+    OwnRun (placed pattern g) height width rows last selves earlies row reached top
 
 abbrev μ-loop : tie.MeasureT-loop
-μ-loop pattern height width rows n first selves₀ earlies₀ s last₀ row₀ reached₀ top₀ selves earlies last row reached top = n - top
+μ-loop pattern g height width rows n first selves₀ earlies₀ last₀ row₀ reached₀ top₀ selves earlies last row reached top = n - top
 
 no-positions-requires : tie.Need-no-positions-requires Inv-loop μ-loop
 no-positions-requires c κs = search needs
@@ -35,14 +36,12 @@ loop-holds c =
     let o = c .before .before in
     own-first _ _ _ _ (o .pre .0) (o .pre .4) (o .pre .5) _ (now (o .args .selves)) (now (o .args .earlies)) (older-zeros 1 _ (omega arith) (c .no-positions .ensures)) (o .pre .2) (o .pre .3)
 
-sub-next-end : tie.Need-sub-next-end Inv-loop μ-loop
-sub-next-end c = omega arith
-
-next-end-requires : tie.Need-next-end-requires Inv-loop μ-loop
-next-end-requires c κs =
+next-own-requires : tie.Need-next-own-requires Inv-loop μ-loop
+next-own-requires c κs =
     let l = c .before .before .before .before .loop in
     let o = c .before .before .before .before .before .before .before in
-    own-asks _ _ _ _ (o .pre .0) (o .pre .4) (o .pre .5) _ _ _ _ _ _ _ (o .pre .1) (omega (arith, c .before .before .before .loop-test .taken, o .pre .6)) (l .inv)
+    let inside = c .before .before .before .loop-test .taken in
+    (o .pre .0, o .pre .4, o .pre .5, omega (arith, inside, o .pre .6), own-asks _ _ _ _ (o .pre .0) (o .pre .4) (o .pre .5) _ _ _ _ _ _ _ (o .pre .1) (omega (arith, inside, o .pre .6)) (l .inv))
 
 mul-selves-2 : tie.Need-mul-selves-2 Inv-loop μ-loop
 mul-selves-2 c = let o = c .before .before .before .before .before .before .before .before in omega (arith, o .pre .0 .height-le, o .pre .5, o .pre .6, c .before .before .before .before .loop-test .taken)
@@ -66,7 +65,7 @@ loop-again : tie.Need-loop-again Inv-loop μ-loop
 loop-again c =
     let l = c .before .before .before .before .before .loop in
     let o = c .before .before .before .before .before .before .before .before in
-    own-more _ _ _ _ (o .pre .0) (o .pre .4) (o .pre .5) _ _ _ _ _ _ _ (o .pre .1) (omega (arith, c .before .before .before .before .loop-test .taken, o .pre .6)) (l .inv) _ _ (c .next-end .ensures)
+    own-more _ _ _ _ (o .pre .0) (o .pre .4) (o .pre .5) _ _ _ _ _ _ _ (o .pre .1) (omega (arith, c .before .before .before .before .loop-test .taken, o .pre .6)) (l .inv) _ _ (c .next-own .ensures)
 
 returns : tie.Need-returns Inv-loop μ-loop
 returns c =
@@ -84,8 +83,7 @@ own-ends-spec =
     element-write-selves
     element-write-earlies
     loop-holds
-    sub-next-end
-    next-end-requires
+    next-own-requires
     mul-selves-2
     element-write-selves-2
     mul-earlies

@@ -38,11 +38,11 @@ element-copy-out-end c = search needs
 sub-if2 : tie.Need-sub-if2
 sub-if2 c = search needs
 
-mul-t22 : tie.Need-mul-t22
-mul-t22 c = search needs
+mul-t23 : tie.Need-mul-t23
+mul-t23 c = search needs
 
-element-copy-out-t25 : tie.Need-element-copy-out-t25
-element-copy-out-t25 c = search needs
+element-copy-out-t26 : tie.Need-element-copy-out-t26
+element-copy-out-t26 c = search needs
 
 returns-2 : tie.Need-returns-2
 returns-2 c = next-inherited _ _ _ _ _ _ _ _ _ _ _ (c .before .before .before .before .before .before .pre) (c .before .before .before .if1 .left) _ _ refl refl (inside (c .before))
@@ -70,8 +70,8 @@ next-end-spec =
     mul-end
     element-copy-out-end
     sub-if2
-    mul-t22
-    element-copy-out-t25
+    mul-t23
+    element-copy-out-t26
     returns-2
     div-compared
     rem-compared

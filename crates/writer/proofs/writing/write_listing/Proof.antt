@@ -2,6 +2,7 @@
 -- listing (`listing-whole`).
 -- Assumes nothing.
 use denote.Ref.{now}
+use Rattle.placed.specs.Placing.{placed}
 use Rattle.writer.specs.Whole.{windows-room, closing-room, listing-whole}
 use borrow.Author.Needs.{needs}
 use Rattle.writer.proofs.writing.write_listing.Statement.{statement}
@@ -15,7 +16,7 @@ write-windows-requires c κs =
       o .pre .4,
       o .pre .5,
       o .pre .6,
-      windows-room (now (a .text)) (now (a .pattern)) (a .s) _ _ (o .pre .1) (o .pre .2) (now (a .listing)) (o .pre .3),
+      windows-room (now (a .text)) (placed (now (a .pattern)) (a .g)) (a .s) _ _ (o .pre .1) (o .pre .2) (now (a .listing)) (o .pre .3),
     )
 
 write-record-requires : tie.Need-write-record-requires
@@ -23,7 +24,7 @@ write-record-requires c κs =
     let o = c .before .before .before .before .before .before .before .before .before .before .before .before in
     let a = o .args in
     let w = c .before .before .before .write-windows .ensures in
-    closing-room (now (a .text)) (now (a .pattern)) (a .s) _ _ (o .pre .1) (o .pre .2) (now (a .listing)) (o .pre .3) _
+    closing-room (now (a .text)) (placed (now (a .pattern)) (a .g)) (a .s) _ _ (o .pre .1) (o .pre .2) (now (a .listing)) (o .pre .3) _
     _ (w .0) (w .1)
 
 same-length : tie.Need-same-length
@@ -35,7 +36,7 @@ returns c =
     .before .before in
     let a = o .args in
     let w = c .before .before .before .before .before .before .write-windows .ensures in
-    listing-whole (now (a .text)) (now (a .pattern)) (a .s) _ _ (o .pre .1) (o .pre .2) (now (a .listing)) (o .pre .3) _
+    listing-whole (now (a .text)) (placed (now (a .pattern)) (a .g)) (a .s) _ _ (o .pre .1) (o .pre .2) (now (a .listing)) (o .pre .3) _
     _ (w .0) (w .1) _ (c .before .before .write-record .ensures .1)
 
 pub write-listing-spec : {M : Type 1} → statement M

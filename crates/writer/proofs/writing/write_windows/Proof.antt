@@ -7,6 +7,7 @@ use Prim.Native.Nat.{ℕ, _+_, _*_}
 use mathlib.Core.List.{List}
 use lib.ListN.{length}
 use denote.Ref.{now}
+use Rattle.placed.specs.Placing.{placed}
 use Rattle.theory.specs.Older.Laws.{zeros-long}
 use Rattle.writer.specs.Whole.{pattern-fits}
 use Rattle.sets.specs.Symbols.Patterns.{listed-few}
@@ -24,7 +25,7 @@ list-offsets-requires c κs = let o = c .before .before .before .before .before 
       omega (arith, o .pre .0 .shape),
       omega (arith, o .pre .0 .shape),
       omega (arith, o .pre .0 .shape),
-      pattern-fits (now (a .text)) (now (a .pattern)) (a .s) (now (a .flags)) (o .pre .0),
+      pattern-fits (now (a .text)) (placed (now (a .pattern)) (a .g)) (a .s) (now (a .flags)) (o .pre .0),
       o .pre .1,
       o .pre .2,
       zeros-long _ (c .before .no-positions .ensures),
@@ -40,20 +41,20 @@ write-rows-requires c κs =
       o .pre .0,
       c .before .before .before .before .list-offsets .ensures,
       zeros-long _ (c .before .before .before .no-positions2 .ensures),
-      omega (arith, o .pre .4, pieces-length (now (a .text)) (now (a .pattern)) (a .s)),
+      omega (arith, o .pre .4, pieces-length (now (a .text)) (placed (now (a .pattern)) (a .g)) (a .s)),
     )
 
 mul-size : tie.Need-mul-size
 mul-size c =
     let o = c .before .before .before .before .before .before .before .before .before .before .before .before .before
     .before .before in
-    omega (arith, listed-few (now (o .args .pattern)) (now (o .args .listed)) (o .pre .1))
+    omega (arith, listed-few (placed (now (o .args .pattern)) (o .args .g)) (now (o .args .listed)) (o .pre .1))
 
 add-size : tie.Need-add-size
 add-size c =
     let o = c .before .before .before .before .before .before .before .before .before .before .before .before .before
     .before .before in
-    omega (arith, listed-few (now (o .args .pattern)) (now (o .args .listed)) (o .pre .1))
+    omega (arith, listed-few (placed (now (o .args .pattern)) (o .args .g)) (now (o .args .listed)) (o .pre .1))
 
 write-strips-requires : tie.Need-write-strips-requires
 write-strips-requires c κs =
@@ -66,7 +67,7 @@ write-strips-requires c κs =
       o .pre .2,
       o .pre .3,
       w .1 .0,
-      omega (arith, o .pre .4, pieces-length (now (a .text)) (now (a .pattern)) (a .s), w .1 .1 .long),
+      omega (arith, o .pre .4, pieces-length (now (a .text)) (placed (now (a .pattern)) (a .g)) (a .s), w .1 .1 .long),
     )
 
 same-length : tie.Need-same-length
@@ -78,8 +79,8 @@ returns c =
     .before .before .before .before .before .before .before .before .before in
     let a = o .args in
     let w = c .before .before .before .before .before .before .before .before .before .write-rows .ensures in (
-      w .0 ∙ pieces-length (now (a .text)) (now (a .pattern)) (a .s),
-      windows-all (now (a .text)) (now (a .pattern)) (a .s) (now (a .flags)) _ _ _ (omega (arith, o .pre .0 .shape))
+      w .0 ∙ pieces-length (now (a .text)) (placed (now (a .pattern)) (a .g)) (a .s),
+      windows-all (now (a .text)) (placed (now (a .pattern)) (a .g)) (a .s) (now (a .flags)) _ _ _ (omega (arith, o .pre .0 .shape))
           (o .pre .4) (w .1 .1) (c .before .before .write-strips .ensures),
     )
 

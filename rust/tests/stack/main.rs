@@ -1,6 +1,8 @@
 //! Every operation runs on a small stack: each is called on the largest inputs and on refused ones in a thread of 64
 //! KiB. An operation that needed more would end the whole test program by a fault.
 
+mod scales;
+
 use colourway::{
     check, count, distinct_counts, list, one_window, read, records, search, strip_links,
     window_cell, Bijection, Buffers, CountBuffers, Refusal, Symbols,

@@ -1,0 +1,3 @@
+pub mod Scaled
+pub mod Theorems
+pub mod Examples

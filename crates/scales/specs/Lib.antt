@@ -1,0 +1,2 @@
+pub mod Enlarged
+pub mod Every
