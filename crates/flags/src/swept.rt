@@ -22,6 +22,7 @@ use rows::places::no_positions;
 use shapes::shapes::Shape;
 use sieve::pairs::pairs_pass;
 use sweep::steps::compared;
+use sweep::steps::laid_compared;
 use sweep::steps::next_end;
 use sweep::windows::ready_ends;
 
@@ -47,7 +48,15 @@ fn fresh_flag(
         left,
         width: s.width,
     };
-    let r = compared(text, t, pattern, g, first, last, top, s.height, top, 0);
+    if g.scale == 1 {
+        let r = compared(text, t, pattern, first, last, top, s.height, top, 0);
+        return RunFlag {
+            row: r.row,
+            reached: r.reached,
+            flag: flag_by(r.end, pattern.len()),
+        };
+    }
+    let r = laid_compared(text, t, pattern, g, first, last, top, s.height, top, 0);
     RunFlag {
         row: r.row,
         reached: r.reached,

@@ -3,7 +3,6 @@ ghost use Prim.Native.Nat.{_+_, _-_, _<_};
 ghost use Rattle.placed.specs.Placing.{placed};
 ghost use Rattle.reach.specs.Reach.{ReachAt, Reached};
 use crate::reach::Far;
-use crate::reach::reach;
 use grid::strips::Strip;
 use placed::placing::Placing;
 use rows::laid::laid_earlier_by;
@@ -50,26 +49,4 @@ pub fn laid_reach(
         place: at,
         earlier: 0,
     }
-}
-
-// By how the pattern lies, which is asked once a window: as it is, it is the slice itself.
-pub fn placed_reach(
-    text: &[u8],
-    s: Strip,
-    pattern: &[u8],
-    g: Placing,
-    first: &[usize; 256],
-    last: &mut [usize; 256],
-    top: usize,
-    height: usize,
-    line: usize,
-    j: usize,
-) -> Far
-    requires { ⌜ ReachAt (now text) s (placed (now pattern) g) (now first) (now last) top height line j ⌝ }
-    ensures { λ r. ⌜ Reached (now (text .entry)) s (placed (now (pattern .entry)) g) top height r (now (last .exit)) ⌝ }
-{
-    if g.scale == 1 {
-        return reach(text, s, pattern, first, last, top, height, line, j);
-    }
-    laid_reach(text, s, pattern, g, first, last, top, height, line, j)
 }

@@ -5,7 +5,8 @@ ghost use Rattle.sweep.specs.Sweep.{NextAt, NextIs};
 ghost use Rattle.placed.specs.Placing.{placed};
 use grid::strips::Strip;
 use placed::placing::Placing;
-use reach::laid::placed_reach;
+use reach::laid::laid_reach;
+use reach::reach::reach;
 
 // Where a run down a strip stands behind a window: the last window that was compared begins at row, and agrees up to
 // place reached of the strip. And the window's first end, with the first position that mismatches with it, or 0 where
@@ -19,6 +20,33 @@ pub struct Step {
 
 // The first end of a window that agrees up to column j of row line of the strip.
 pub fn compared(
+    text: &[u8],
+    s: Strip,
+    pattern: &[u8],
+    first: &[usize; 256],
+    last: &mut [usize; 256],
+    top: usize,
+    height: usize,
+    line: usize,
+    j: usize,
+) -> Step
+    requires { ⌜
+        ReachAt (now text) s (now pattern) (now first) (now last) top height line j × (top * s .width ≤ 65025) ⌝ }
+    ensures { λ r. ⌜ NextIs (now (text .entry)) s (now (pattern .entry)) top top height r (now (last .exit)) ⌝ }
+{
+    let r = reach(text, s, pattern, first, last, top, height, line, j);
+    let place = r.place;
+    Step {
+        row: top,
+        reached: place,
+        end: place - top * s.width,
+        earlier: r.earlier,
+    }
+}
+
+// The same of a pattern as it lies. Who calls either asks for the scale itself: each of them becomes part of one loop,
+// and `compared`, which is small, with it.
+pub fn laid_compared(
     text: &[u8],
     s: Strip,
     pattern: &[u8],
@@ -36,7 +64,7 @@ pub fn compared(
     ensures { λ r. ⌜
         NextIs (now (text .entry)) s (placed (now (pattern .entry)) g) top top height r (now (last .exit)) ⌝ }
 {
-    let r = placed_reach(text, s, pattern, g, first, last, top, height, line, j);
+    let r = laid_reach(text, s, pattern, g, first, last, top, height, line, j);
     let place = r.place;
     Step {
         row: top,
@@ -71,7 +99,10 @@ pub fn next_end(
     let width = s.width;
     let start = top * width;
     if reached <= start {
-        return compared(text, s, pattern, g, first, last, top, height, top, 0);
+        if g.scale == 1 {
+            return compared(text, s, pattern, first, last, top, height, top, 0);
+        }
+        return laid_compared(text, s, pattern, g, first, last, top, height, top, 0);
     }
     let k = top - row;
     let end = selves[k];
@@ -83,16 +114,10 @@ pub fn next_end(
             earlier: earlies[k],
         };
     }
-    compared(
-        text,
-        s,
-        pattern,
-        g,
-        first,
-        last,
-        top,
-        height,
-        reached / width,
-        reached % width,
-    )
+    let line = reached / width;
+    let column = reached % width;
+    if g.scale == 1 {
+        return compared(text, s, pattern, first, last, top, height, line, column);
+    }
+    laid_compared(text, s, pattern, g, first, last, top, height, line, column)
 }

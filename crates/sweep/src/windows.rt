@@ -7,6 +7,7 @@ ghost use Rattle.placed.specs.Placing.{placed};
 use crate::own::lengthen_ends;
 use crate::steps::Step;
 use crate::steps::compared;
+use crate::steps::laid_compared;
 use crate::steps::next_end;
 use grid::strips::Strip;
 use placed::placing::Placing;
@@ -82,7 +83,10 @@ pub fn window_end(
         width: s.width,
     };
     if reached <= top * s.width {
-        return compared(text, t, pattern, g, first, last, top, s.height, top, 0);
+        if g.scale == 1 {
+            return compared(text, t, pattern, first, last, top, s.height, top, 0);
+        }
+        return laid_compared(text, t, pattern, g, first, last, top, s.height, top, 0);
     }
     ready_ends(pattern, g, s, first, selves, earlies, row, reached);
     next_end(

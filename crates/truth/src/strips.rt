@@ -28,6 +28,7 @@ use sieve::spoilers::no_spoiler;
 use sieve::spoilers::spoiled;
 use sweep::steps::Step;
 use sweep::steps::compared;
+use sweep::steps::laid_compared;
 use sweep::steps::next_end;
 use sweep::windows::ready_ends;
 
@@ -111,7 +112,10 @@ fn judged_end(
         width: s.width,
     };
     if reached <= top * s.width {
-        return compared(text, t, pattern, g, first, last, top, s.height, top, 0);
+        if g.scale == 1 {
+            return compared(text, t, pattern, first, last, top, s.height, top, 0);
+        }
+        return laid_compared(text, t, pattern, g, first, last, top, s.height, top, 0);
     }
     ready_ends(pattern, g, s, first, selves, earlies, row, reached);
     next_end(

@@ -1,7 +1,7 @@
 -- Laws of a window, part of a row after part of a row: where each part lies in the strip and in the text, that places
 -- are small, and that the state goes on over a part that agrees, and ends at one that does not.
 -- Assumes nothing.
-use mathlib.Core.Path.{_≡_, refl, sym, _∙_, ap, fun-ext, subst}
+use mathlib.Core.Path.{_≡_, refl, sym, _∙_, ap, fun-ext}
 use mathlib.Core.List.{List}
 use Prim.Native.Nat.{ℕ, _+_, _-_, _*_, _/_, _%_, _≤_, _<_}
 use native.Mathlib.Nat.{add-zero, zero-add, zero-mul, add-mul, add-sub-cancel-left, suc-mul, mul-le-mul-right, mod-lt}
@@ -19,19 +19,12 @@ use Rattle.prefixes.specs.Prefixes.Ends.{ends-inside, ends-nowhere}
 use Rattle.prefixes.specs.State.{Swept, earlierBy}
 use Rattle.prefixes.specs.State.Laws.{swept-found, swept-all, earlier-tells}
 use Rattle.reach.specs.Reach.{ReachAt, Reached}
-use Rattle.reach.specs.declared.reach.Far.{Far}
 use Rattle.rows.specs.Rows.{PartAt, PartMeets, EndsPart}
 use Rattle.prefixes.specs.Prefixes.{suffix}
 
 -- the part of a list that the code lends, from a place to n further on
 pub lent-part : (l : List ℕ) (a n : ℕ) → take (a + n - a) (drop a l) ≡ take n (drop a l)
 lent-part l a n = ap (λ (k : ℕ). take k (drop a l)) (add-sub-cancel-left a n)
-
--- what is reached of a pattern is reached of an equal one
-pub reached-same : (text : List ℕ) (s : Strip) (a b : List ℕ) (top height : ℕ) (r : Far) (last : List ℕ) → b ≡ a
-    → Reached text s a top height r last → Reached text s b top height r last
-reached-same text s a b top height r last e h =
-    subst (λ (l : List ℕ). Reached text s l top height r last) (sym e) h
 
 -- a place of the strip, by its row and column
 pub strip-cell : (text : List ℕ) (s : Strip) (row j : ℕ) → j < s .width

@@ -1,7 +1,7 @@
 -- Laws of the next window: what is left to compare of it, or that it has the pattern's own first end. Where the last
 -- window compared reaches into it, inheritance says which of the two; else it is compared from its first cell.
 -- Assumes nothing.
-use mathlib.Core.Path.{_≡_, sym, _∙_, ap}
+use mathlib.Core.Path.{_≡_, sym, _∙_, ap, subst}
 use mathlib.Core.List.{List}
 use Prim.Native.Nat.{ℕ, _+_, _-_, _*_, _/_, _%_, _≤_, _<_}
 use native.Mathlib.Nat.{add-zero, add-mul, mod-lt, div-add-mod'}
@@ -37,6 +37,17 @@ module _ (text : List ℕ) (s : Strip) (pattern first last₀ : List ℕ) (top h
             };
         end = got .end;
       }
+
+-- what is asked, and what is said, of a pattern is so of an equal one
+pub reach-same : (text : List ℕ) (s : Strip) (a b first last : List ℕ) (top height line j : ℕ) → b ≡ a
+    → ReachAt text s b first last top height line j → ReachAt text s a first last top height line j
+reach-same text s a b first last top height line j e h =
+    subst (λ (l : List ℕ). ReachAt text s l first last top height line j) e h
+
+pub next-same : (text : List ℕ) (s : Strip) (a b : List ℕ) (row top height : ℕ) (r : Step) (last : List ℕ) → b ≡ a
+    → NextIs text s a row top height r last → NextIs text s b row top height r last
+next-same text s a b row top height r last e h =
+    subst (λ (l : List ℕ). NextIs text s l row top height r last) (sym e) h
 
 -- and was said to be below another one
 pub next-since : (text : List ℕ) (s : Strip) (pattern : List ℕ) (row top height : ℕ) (r : Step) (last : List ℕ)
