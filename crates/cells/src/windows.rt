@@ -4,14 +4,14 @@ ghost use Rattle.std.specs.Prelude.{◌≡◌, ◌≤◌, ◌<◌};
 ghost use Rattle.cells.specs.Windows.{cell_of, cells_of_row, offset_of};
 
 // What is read at a place: a symbol, or nothing past the text's end.
-#[derive(Drop)]
+#[derive(Clone, Copy)]
 pub enum Cell {
     Symbol(u8),
     PastEnd,
 }
 
 // A window of a text: the text's row width, the window's corner and its sides.
-#[derive(Drop)]
+#[derive(Clone, Copy)]
 pub struct WindowPlace {
     pub columns: usize,
     pub row: usize,

@@ -2,7 +2,7 @@
 use refusals::refusals::Refusal;
 
 // Where a walk stands, or where it stopped.
-#[derive(Drop)]
+#[derive(Clone, Copy)]
 pub enum Walk {
     // every record is right, and the next one begins here
     Goes(usize),

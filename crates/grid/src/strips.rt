@@ -12,7 +12,7 @@ use shapes::shapes::{Shape, corner_inside, text_outcome};
 use shapes::tables::no_places;
 
 // All rows of the columns from left on, as many as the strip is wide.
-#[derive(Drop)]
+#[derive(Clone, Copy)]
 pub struct Strip {
     pub rows: usize,
     pub columns: usize,

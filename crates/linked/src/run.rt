@@ -8,7 +8,7 @@ use placed::placing::{Placing, pattern_at, pattern_cells};
 
 // Where a run down a strip stands behind a window: the last window that was compared begins at row, and agrees up to
 // place reached of the strip. And the position at which a mismatch of the window ends first, or the pattern's length.
-#[derive(Drop)]
+#[derive(Clone, Copy)]
 pub struct Run {
     pub row: usize,
     pub reached: usize,
@@ -16,7 +16,7 @@ pub struct Run {
 }
 
 // The same with the window's flag. A window of another count is passed by, so it has no end.
-#[derive(Drop)]
+#[derive(Clone, Copy)]
 pub struct RunFlag {
     pub row: usize,
     pub reached: usize,

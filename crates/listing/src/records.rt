@@ -6,14 +6,14 @@ ghost use Rattle.listing.specs.Records.{bytes_of, mismatch_bytes};
 ghost use Rattle.listing.specs.Entries.{mismatch_record};
 
 // A place by row and column: a window's corner in the text, or a cell in the pattern.
-#[derive(Drop)]
+#[derive(Clone, Copy)]
 pub struct Place {
     pub row: u8,
     pub column: u8,
 }
 
 // A window, and the two cells that spoil it.
-#[derive(Drop)]
+#[derive(Clone, Copy)]
 pub struct MismatchBody {
     pub window: Place,
     pub earlier: Place,
@@ -21,7 +21,7 @@ pub struct MismatchBody {
 }
 
 // A record, a case for each kind. A window is named by its corner.
-#[derive(Drop)]
+#[derive(Clone, Copy)]
 pub enum Record {
     // kind 1
     Found { row: u8, column: u8 },

@@ -7,14 +7,14 @@ ghost use Rattle.mapping.specs.Bijections.{empty_bijection, good_columns, rename
 use refusals::refusals::{Outcome, Reason, Refusal};
 
 // 256 stands for no image and no preimage.
-#[derive(Drop)]
+#[derive(Clone, Copy)]
 pub struct Bijection {
     pub forward: [u16; 256],
     pub backward: [u16; 256],
 }
 
 // How an operation on a bijection ends: refused, the bijection is the one that was given.
-#[derive(Drop)]
+#[derive(Clone, Copy)]
 pub struct BijectionAnswer {
     pub outcome: Outcome,
     pub bijection: Bijection,

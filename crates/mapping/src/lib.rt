@@ -1,2 +1,4 @@
 // Bijections between symbols.
+#![tactic(auto)]
+
 pub mod bijections;

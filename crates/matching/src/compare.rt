@@ -14,7 +14,7 @@ use rows::rows::{earlier_by, part_end};
 use view::{window_row, window_symbol};
 
 // What is answered of a window.
-#[derive(Drop)]
+#[derive(Clone, Copy)]
 pub enum Verdict {
     Match,
     // Two cells, by position row by row in the pattern, that are alike on one side only.
@@ -27,7 +27,7 @@ pub enum Verdict {
 }
 
 // The verdict with the bijection; beside a mismatch or a refusal the bijection is empty.
-#[derive(Drop)]
+#[derive(Clone, Copy)]
 pub struct WindowAnswer {
     pub verdict: Verdict,
     pub bijection: Bijection,

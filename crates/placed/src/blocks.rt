@@ -8,7 +8,7 @@ use crate::placing::{Placing, quotient, shown_place};
 
 // The place of the pattern's cell that a block shows, the position behind the block, and the one behind its row, or an
 // earlier one: up to there the next blocks show the next cells.
-#[derive(Drop)]
+#[derive(Clone, Copy)]
 pub struct Block {
     pub place: usize,
     pub end: usize,

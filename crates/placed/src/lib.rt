@@ -1,3 +1,5 @@
 // A pattern as it lies: as it is, or enlarged. The cells of an enlargement are read off the pattern's own.
+#![tactic(auto)]
+
 pub mod blocks;
 pub mod placing;

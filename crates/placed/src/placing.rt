@@ -6,7 +6,7 @@ ghost use Rattle.placed.specs.Placing.{placed, index_at, Sound};
 // The scale, which is 1 where the pattern lies as it is, and then nothing else counts; the pattern's own sides; how
 // many cells the enlargement has; and what a position is multiplied by where it is divided by the scale, by the
 // enlargement's width, and by scale rows of the enlargement: a product costs less than a division.
-#[derive(Drop)]
+#[derive(Clone, Copy)]
 pub struct Placing {
     pub scale: usize,
     pub height: usize,

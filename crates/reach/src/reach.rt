@@ -7,7 +7,7 @@ use rows::rows::{earlier_by, part_end};
 
 // The place in the strip at which a mismatch of a window ends first, with the mismatch's earlier position in the
 // window; or the place at which the window ends, with 0.
-#[derive(Drop)]
+#[derive(Clone, Copy)]
 pub struct Far {
     pub place: usize,
     pub earlier: usize,

@@ -7,13 +7,13 @@ use listing::records::{MismatchBody, Place, Record};
 use refusals::refusals::Refusal;
 
 // A place in a listing.
-#[derive(Drop)]
+#[derive(Clone, Copy)]
 pub struct Cursor {
     pub at: usize,
 }
 
 // What reading at a cursor answers: the record is a case within a case.
-#[derive(Drop)]
+#[derive(Clone, Copy)]
 pub enum Read {
     Whole(Record, Cursor),
     Refused(Refusal),

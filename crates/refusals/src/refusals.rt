@@ -5,7 +5,7 @@ ghost use Rattle.refusals.specs.Refusals.{number_of_reason, number_of, values_of
 ghost use Rattle.refusals.specs.Said.{◌then◌, said_number, outcome_said};
 
 // Why an input, or a state, is refused where nothing is returned besides the number.
-#[derive(Drop)]
+#[derive(Clone, Copy)]
 pub enum Reason {
     // program: fewer than 4 size bytes
     SizesMissing,
@@ -36,7 +36,7 @@ pub enum Reason {
 }
 
 // By what an input, or a state, is refused.
-#[derive(Drop)]
+#[derive(Clone, Copy)]
 pub enum Refusal {
     // with nothing but its number
     Plain(Reason),
@@ -51,7 +51,7 @@ pub enum Refusal {
 }
 
 // How an operation ends that answers nothing but its buffers.
-#[derive(Drop)]
+#[derive(Clone, Copy)]
 pub enum Outcome {
     Accepted,
     Refused(Refusal),

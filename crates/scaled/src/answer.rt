@@ -2,7 +2,7 @@
 use refusals::refusals::Refusal;
 
 // What a search at every scale answers.
-#[derive(Drop)]
+#[derive(Clone, Copy)]
 pub enum Summed {
     // the windows found and refused at all scales, and the length of all listings together
     Listed {

@@ -25,7 +25,7 @@ use shapes::shapes::Shape;
 
 // The windows found and refused at all scales together, and the length of all listings. One scale's counts have 16
 // bits; these do not.
-#[derive(Drop)]
+#[derive(Clone, Copy)]
 pub struct Sums {
     pub found: usize,
     pub refused: usize,

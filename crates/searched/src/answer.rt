@@ -2,7 +2,7 @@
 use refusals::refusals::Refusal;
 
 // What a search answers, and each of its two parts.
-#[derive(Drop)]
+#[derive(Clone, Copy)]
 pub enum Searched {
     // the windows found and refused, and the length of the listing, which Count does not write
     Listed {

@@ -7,7 +7,7 @@ ghost use Rattle.sets.specs.Symbols.{bit_of, word_of, has, size_of, lowest_of};
 ghost use Rattle.sets.specs.Symbols.{without_symbol};
 
 // Bit k of word i is 1 where symbol 64 i + k is in the set.
-#[derive(Drop)]
+#[derive(Clone, Copy)]
 pub struct Symbols {
     pub w0: u64,
     pub w1: u64,

@@ -8,7 +8,7 @@ ghost use Rattle.shapes.specs.Questions.{text_said};
 use refusals::refusals::{Outcome, Reason, Refusal, outcome_then};
 
 // The sides of a text and of a window in it.
-#[derive(Drop)]
+#[derive(Clone, Copy)]
 pub struct Shape {
     pub rows: usize,
     pub columns: usize,

@@ -10,7 +10,7 @@ use placed::placing::{Placing, pattern_at, pattern_cells};
 use shapes::shapes::Shape;
 
 // Two cells by their offsets from a window's corner, and whether they are alike in the pattern.
-#[derive(Drop)]
+#[derive(Clone, Copy)]
 pub struct Spoiler {
     pub earlier: usize,
     pub later: usize,

@@ -12,7 +12,7 @@ use reach::reach::reach;
 // Where a run down a strip stands behind a window: the last window that was compared begins at row, and agrees up to
 // place reached of the strip. And the window's first end, with the first position that mismatches with it, or 0 where
 // no mismatch ends in the window.
-#[derive(Drop)]
+#[derive(Clone, Copy)]
 pub struct Step {
     pub row: usize,
     pub reached: usize,

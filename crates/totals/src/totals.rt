@@ -8,7 +8,7 @@ ghost use Rattle.placed.specs.Placing.{placed};
 use placed::placing::Placing;
 
 // The windows found and refused, and the length of their listing.
-#[derive(Drop)]
+#[derive(Clone, Copy)]
 pub struct Totals {
     pub found: u16,
     pub refused: u16,

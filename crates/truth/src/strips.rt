@@ -22,7 +22,7 @@ use sweep::windows::ready_ends;
 
 // Whether a strip's flags are the truth, and the two cells that are kept for the next strip: which, is a matter of
 // time.
-#[derive(Drop)]
+#[derive(Clone, Copy)]
 pub struct StripTruth {
     pub truth: bool,
     pub spoiler: Spoiler,

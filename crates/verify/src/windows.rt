@@ -21,7 +21,7 @@ use shapes::shapes::Shape;
 use shapes::tables::{no_entries, no_symbols};
 
 // Where the windows end, and how many of them stand as found; or the first bad record.
-#[derive(Drop)]
+#[derive(Clone, Copy)]
 pub enum Walked {
     Passed { at: usize, found: u16 },
     Stopped(Refusal),

@@ -8,7 +8,7 @@ ghost use Rattle.view.specs.Inside.{RowInside, CellInside};
 
 // Where a window of a text is read: its rows are parts of the text, columns apart, and the first one begins at the
 // corner.
-#[derive(Drop)]
+#[derive(Clone, Copy)]
 pub struct WindowView<'a> {
     pub text: &'a [u8],
     pub columns: usize,
