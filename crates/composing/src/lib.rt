@@ -1,2 +1,4 @@
 // One bijection after the other.
+#![tactic(auto)]
+
 pub mod compose;

@@ -1,2 +1,4 @@
 // Of the lower library: sets of symbols.
+#![tactic(auto)]
+
 pub mod symbols;

@@ -2,6 +2,8 @@
 // is copied. Three layers. The work is done by functions of a slice and numbers. Above them stand thin functions over
 // the view; a struct that holds a slice is proved by a walk of its code, so they are few and short. Above these stand
 // functions with plain parameters, so that no caller needs a walk.
+#![tactic(auto)]
+
 ghost use Rattle.std.specs.Prelude.{◌≡◌, ◌+◌};
 ghost use Rattle.cells.specs.Windows.{cells_of_row, window_at};
 ghost use Rattle.view.specs.Inside.{RowInside, CellInside};

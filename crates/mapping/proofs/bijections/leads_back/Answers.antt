@@ -11,9 +11,10 @@ use Rattle.theory.specs.Test.Laws.{is_true, is_false, says_true, says_false}
 use Rattle.theory.specs.Columns.{Back}
 use Rattle.theory.specs.Columns.Agreement.{back_tested, leads_back_tested}
 use Rattle.mapping.proofs.bijections.leads_back.Goals as goal
+use Rattle.mapping.proofs.bijections.leads_back.Goals.{After-back_at}
 
 -- what the call says of the entry at a
-entry_tested : (c : goal.After-back_at)
+entry_tested : (c : After-back_at)
     → let a = c.loop-a.a in
     Tested (Back c.args.g.now (get_or c.args.f.now a 0) a) c.back_at.result
 entry_tested c = rw c.back_at.ensures (back_tested _ _ _)

@@ -8,12 +8,13 @@ use Rattle.mapping.specs.Bijections.{good_columns, paired}
 use Rattle.mapping.specs.Bijections.Numbers.{pair_disagreeing, pair_other_image, pair_other_preimage}
 use Rattle.mapping.specs.Bijections.Numbers.{pair_accepted}
 use Rattle.mapping.proofs.bijections.pair.Goals as goal
+use Rattle.mapping.proofs.bijections.pair.Goals.{Else-not-columns_agree, Else-not-may_have}
 
 -- past a guard: its test passed
-agreeing : (c : goal.Else-not-columns_agree) → good_columns c.args.t1 ≡ true
+agreeing : (c : Else-not-columns_agree) → good_columns c.args.b ≡ true
 agreeing c = sym c.columns_agree.ensures ∙ c.if-not-columns_agree.false
 
-image_free : (c : goal.Else-not-may_have) → let a = c.args in free a.t1.forward a.a a.c ≡ true
+image_free : (c : Else-not-may_have) → let a = c.args in free a.b.forward a.a a.c ≡ true
 image_free c = sym c.may_have.ensures ∙ c.if-not-may_have.false
 
 pub returns-then-not-columns_agree : goal.returns-then-not-columns_agree

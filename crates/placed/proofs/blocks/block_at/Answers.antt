@@ -9,44 +9,45 @@ use Rattle.theory.specs.Test.Laws.{pick_true}
 use Rattle.placed.specs.Placing.Laws.{Enlarged, placed_known, quotient_small, inverse_le, block_is, row_is, wide_le}
 use Rattle.placed.specs.Blocks.Laws.{block_plain, block_of, end_near, row_near}
 use Rattle.placed.proofs.blocks.block_at.Goals as goal
+use Rattle.placed.proofs.blocks.block_at.Goals.{After-quotient, After-quotient-2, Else-g-eq1}
 
 -- where it is enlarged
-enlarged : (c : goal.Else-g-eq1) → let a = c.args in
+enlarged : (c : Else-g-eq1) → let a = c.args in
     Enlarged a.pattern.now a.g × (a.p < a.g.cells)
 enlarged c = placed_known _ _ _ (ne_eqb _ _ c.if-g-eq1.false) c.requires.0
 
-by_scale_le : (c : goal.Else-g-eq1) → c.args.g.by_scale ≤ 4294967297
+by_scale_le : (c : Else-g-eq1) → c.args.g.by_scale ≤ 4294967297
 by_scale_le c = rw (enlarged c).0.numbers.by_scale (inverse_le c.args.g.scale)
 
-by_width_le : (c : goal.Else-g-eq1) → c.args.g.by_width ≤ 4294967297
+by_width_le : (c : Else-g-eq1) → c.args.g.by_width ≤ 4294967297
 by_width_le c =
     let a = c.args in
     rw (enlarged c).0.numbers.by_width (inverse_le (a.g.scale * a.g.width))
 
 -- the quotients
-along : (c : goal.After-quotient) → let a = c.args in
+along : (c : After-quotient) → let a = c.args in
     c.quotient.result ≡ a.p / a.g.scale
 along c =
-    let k = enlarged (?c.Else-g-eq1) in
+    let k = enlarged (goal.at.After-quotient c).Else-g-eq1 in
     c.quotient.ensures ∙ block_is _ k.0.numbers _ k.1
 
-row : (c : goal.After-quotient-2) → let a = c.args in
+row : (c : After-quotient-2) → let a = c.args in
     c.quotient-2.result ≡ a.p / (a.g.scale * a.g.width)
 row c =
-    let k = enlarged (?c.Else-g-eq1) in
+    let k = enlarged (goal.at.After-quotient-2 c).Else-g-eq1 in
     c.quotient-2.ensures ∙ row_is _ k.0.numbers _ k.1
 
 -- and the positions by them
-end_small : (c : goal.After-quotient) → let a = c.args in
+end_small : (c : After-quotient) → let a = c.args in
     (c.quotient.result + 1) * a.g.scale ≤ a.p + 65025
 end_small c =
-    let k = enlarged (?c.Else-g-eq1) in
+    let k = enlarged (goal.at.After-quotient c).Else-g-eq1 in
     rw (along c) (end_near _ _ _ (ne_eqb _ _ c.if-g-eq1.false) k.0 k.1)
 
-row_small : (c : goal.After-quotient-2) → let a = c.args in
+row_small : (c : After-quotient-2) → let a = c.args in
     (c.quotient-2.result + 1) * (a.g.scale * a.g.width) ≤ 65025
 row_small c =
-    let k = enlarged (?c.Else-g-eq1) in
+    let k = enlarged (goal.at.After-quotient-2 c).Else-g-eq1 in
     rw (row c) (row_near _ _ _ (ne_eqb _ _ c.if-g-eq1.false) k.0 k.1)
 
 pub returns-then-g-eq1 : goal.returns-then-g-eq1

@@ -5,9 +5,10 @@ use native.Mathlib.Omega.{arith}
 use Rattle.placed.specs.Blocks.{BlockAt}
 use Rattle.placed.specs.Blocks.Laws.{block_next}
 use Rattle.placed.proofs.blocks.next_block.Goals as goal
+use Rattle.placed.proofs.blocks.next_block.Goals.{Then-b}
 
 -- the block behind b in its row
-behind : (c : goal.Then-b) → let a = c.args in
+behind : (c : Then-b) → let a = c.args in
     BlockAt a.pattern.now a.g a.b.end (record { place = a.b.place + 1; end = a.b.end + a.g.scale; stop = a.b.stop })
 behind c =
     block_next _ _ c.args.b c.requires.0 c.if-b.true

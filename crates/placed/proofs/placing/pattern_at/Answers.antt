@@ -11,13 +11,14 @@ use Rattle.theory.specs.Test.Laws.{pick_true}
 use Rattle.placed.specs.Placing.{placed}
 use Rattle.placed.specs.Placing.Laws.{Enlarged, placed_known, placed_cell, place_inside}
 use Rattle.placed.proofs.placing.pattern_at.Goals as goal
+use Rattle.placed.proofs.placing.pattern_at.Goals.{Else-g-eq1, Then-g-eq1}
 
 -- where the pattern lies as it is
-plain : (c : goal.Then-g-eq1) → let a = c.args in placed a.pattern.now a.g ≡ a.pattern.now
+plain : (c : Then-g-eq1) → let a = c.args in placed a.pattern.now a.g ≡ a.pattern.now
 plain c = pick_true _ _ (eq-eqb _ _ c.if-g-eq1.true)
 
 -- where it is enlarged
-enlarged : (c : goal.Else-g-eq1) → let a = c.args in
+enlarged : (c : Else-g-eq1) → let a = c.args in
     Enlarged a.pattern.now a.g × (a.p < a.g.cells)
 enlarged c = placed_known _ _ _ (ne_eqb _ _ c.if-g-eq1.false) c.requires
 

@@ -5,16 +5,17 @@ use native.Mathlib.Omega.{arith}
 use Prim.Native.Nat.{◌-◌, ◌*◌, ◌≤◌}
 use Rattle.placed.specs.Placing.Laws.{inverse_le, shown_le, place_sub, place_is, quotient_small}
 use Rattle.placed.proofs.placing.shown_place.Goals as goal
+use Rattle.placed.proofs.placing.shown_place.Goals.{After-quotient}
 
 -- what is taken away is no more than what it is taken from
-less : (c : goal.After-quotient) → let a = c.args in
+less : (c : After-quotient) → let a = c.args in
     a.g.width * (c.quotient-row.result - c.quotient-shown.result) ≤ c.quotient.result
 less c =
     let p = c.requires in
     rw (c.quotient-row.ensures, c.quotient-shown.ensures, c.quotient.ensures)
     (place_sub _ p.0 _ p.1)
 
-small : (c : goal.After-quotient) → c.quotient.result ≤ 65026
+small : (c : After-quotient) → c.quotient.result ≤ 65026
 small c =
     let p = c.requires in
     rw c.quotient.ensures
