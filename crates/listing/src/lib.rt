@@ -1,2 +1,4 @@
 // The records of a listing, and their bytes.
+#![tactic(auto)]
+
 pub mod records;

@@ -8,7 +8,7 @@ use Prim.Native.Nat.{ℕ, zero, suc, ◌+◌, ◌*◌, ◌/◌, ◌%◌, ◌^◌
 use Rattle.std.proofs.Math.Decide.{dec_lt}
 use native.Mathlib.Omega.{arith}
 use Rattle.std.specs.Int.Count.{ones, count_trailing_zeros}
-use Rattle.std.proofs.lemmas.Nat.{ones_le}
+use Rattle.std.proofs.lemmas.Nat.{ones-le}
 use Rattle.theory.specs.Test.{pick, Tested, holds, fails}
 use Rattle.theory.specs.Test.Laws.{pick_false, eq_tested, tested_same, tested_iff}
 use Rattle.theory.specs.First.{first, First}
@@ -189,10 +189,10 @@ size_words s f =
 pub ones_small : (s : Symbols) → SmallWords s
     → (ones s.w0 ≤ 64) × (ones s.w1 ≤ 64) × (ones s.w2 ≤ 64) × (ones s.w3 ≤ 64)
 ones_small s f = (
-  ones_le 64 s.w0 f.w0_small,
-  ones_le 64 s.w1 f.w1_small,
-  ones_le 64 s.w2 f.w2_small,
-  ones_le 64
+  ones-le 64 s.w0 f.w0_small,
+  ones-le 64 s.w1 f.w1_small,
+  ones-le 64 s.w2 f.w2_small,
+  ones-le 64
       s.w3 f.w3_small,
 )
 

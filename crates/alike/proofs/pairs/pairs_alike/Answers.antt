@@ -3,7 +3,6 @@
 -- Assumes nothing.
 use mathlib.Core.Path.{◌≡◌, ◌∙◌, ap}
 use mathlib.Core.Bool.{not}
-use mathlib.Core.Logic.{⊎_elim}
 use Prim.Native.Nat.{ℕ, ◌+◌, ◌<◌}
 use native.Mathlib.Omega.{arith}
 use lib.Dec.{eqb}
@@ -13,6 +12,7 @@ use Rattle.theory.specs.Count.Laws.{count_le}
 use Rattle.theory.specs.Count.Steps.{count-zero, count-every, count_hit, count_miss}
 use Rattle.alike.specs.Pairs.{alike_at}
 use Rattle.alike.proofs.pairs.pairs_alike.Goals as goal
+use Rattle.alike.proofs.pairs.pairs_alike.Goals.{then-text-corner, else-text-corner}
 use Rattle.alike.proofs.pairs.pairs_alike.Goals.{In-loop-i}
 
 -- there are eight pairs
@@ -70,10 +70,7 @@ pub loop-i-preserved : goal.loop-i-preserved
 loop-i-preserved c =
     let l = c.loop-i in (
       omega (arith, c.loop-i-test.true),
-      ⊎_elim
-          (λ w. w.1 ∙ count_hit _ l.i _ l.invariant.1 (ap not (is_false (eq_tested _ _) w.0.taken)))
-          (λ w. w.1 ∙ count_miss _ l.i _ l.invariant.1 (ap not (is_true (eq_tested _ _) w.0.left)))
-          c.if-text-corner.branch,
+      elim c.if-text-corner.branch [ then-text-corner w ↦ w.unlike-is ∙ count_hit _ l.i _ l.invariant.1 (ap not (is_false (eq_tested _ _) w.if-text-corner.true)) | else-text-corner w ↦ w.unlike-is ∙ count_miss _ l.i _ l.invariant.1 (ap not (is_true (eq_tested _ _) w.if-text-corner.false)) ],
     )
 
 pub returns : goal.returns

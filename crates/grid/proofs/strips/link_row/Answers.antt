@@ -4,8 +4,8 @@
 use mathlib.Core.Path.{◌≡◌, refl}
 use native.Mathlib.Omega.{arith}
 use Prim.Native.Nat.{◌+◌, ◌≤◌, ◌<◌}
-use lib.ListN.{length, get_or}
-use Rattle.grid.specs.Strips.Rows.{latest_le, linked_row_none}
+use lib.ListN.{length, get_or, length-set}
+use Rattle.grid.specs.Strips.Rows.{latest_le, linked_row_none, linked_row_more}
 use Rattle.grid.proofs.strips.link_row.Goals as goal
 use Rattle.grid.proofs.strips.link_row.Goals.{After-loop-j, After-shared_slice_known-in-loop-j-1}
 
@@ -46,6 +46,14 @@ offset_bounds-last-v-in-loop-j c = omega (arith, byte (goal.at.offset_bounds-las
 
 pub bounds-last-v-in-loop-j : goal.bounds-last-v-in-loop-j
 bounds-last-v-in-loop-j c = omega (arith, byte (goal.at.bounds-last-v-in-loop-j c).After-shared_slice_known-in-loop-j-1)
+
+pub loop-j-preserved : goal.loop-j-preserved
+loop-j-preserved c = (
+  omega arith,
+  rw length-set c.loop-j.invariant.1,
+  rw length-set c.loop-j.invariant.2,
+  λ s r l. linked_row_more s _ _ _ _ _ _ _ (c.loop-j.invariant.3 s r l) (r _ c.loop-j-test.true) (byte (goal.at.loop-j-preserved c).After-shared_slice_known-in-loop-j-1) c.distance.ensures,
+)
 
 pub shape_of-links : goal.shape_of-links
 shape_of-links c = c.loop-j.invariant.1

@@ -10,7 +10,7 @@ use Rattle.theory.specs.Older.Laws.{zeros_at, zeros_long}
 use Rattle.theory.specs.Store.Laws.{rows_none, length_rows}
 use Rattle.shapes.specs.Shapes.Laws.{product_le}
 use Rattle.grid.specs.Strips.{strip_symbols, LinkedRow}
-use Rattle.grid.specs.Strips.Rows.{strip_row_at, linkable_row, last_places_none}
+use Rattle.grid.specs.Strips.Rows.{strip_row_at, linkable_row, next_places, next_links, last_places_none}
 use Rattle.grid.proofs.strips.link_rows.Goals as goal
 use Rattle.grid.proofs.strips.link_rows.Goals.{After-link_row, After-loop-i, At-loop-i, In-loop-i}
 
@@ -45,6 +45,13 @@ pub link_row-requires : goal.link_row-requires
 link_row-requires c =
     linkable_row _ _ c.requires.0 _ c.loop-i-test.true _ c.row_cells-row.ensures _ _ c.loop-i.invariant.1
     (omega (arith, c, length_links (goal.at.link_row-requires c).At-loop-i))
+
+pub loop-i-preserved : goal.loop-i-preserved
+loop-i-preserved c = (
+  omega arith,
+  next_places _ _ c.requires.0 _ c.loop-i-test.true _ c.row_cells-row.ensures _ _ _ (linked (goal.at.loop-i-preserved c).After-link_row),
+  next_links _ _ c.requires.0 _ c.loop-i-test.true _ c.row_cells-row.ensures _ _ _ _ c.loop-i.invariant.2 (linked (goal.at.loop-i-preserved c).After-link_row),
+)
 
 pub shape_of-links : goal.shape_of-links
 shape_of-links c = length_links (goal.at.shape_of-links c).At-loop-i

@@ -2,6 +2,7 @@
 -- each place once.
 -- Assumes nothing.
 use mathlib.Core.Path.{◌≡◌}
+use mathlib.Core.List.{[]}
 use lib.ListN.{length}
 use Rattle.refusals.specs.Said.{accepts}
 use Rattle.refusals.specs.Said.Laws.{passed_said}

@@ -1,6 +1,7 @@
 -- `strips::strip_outcome` meets its contract: 2, 3, 4 by the text's own check, then 5, then 9.
 -- Assumes nothing.
 use mathlib.Core.Path.{sym, ◌∙◌}
+use mathlib.Core.List.{[]}
 use native.Mathlib.Omega.{arith}
 use lib.ListN.{length}
 use Rattle.refusals.specs.Said.Laws.{passed_said}

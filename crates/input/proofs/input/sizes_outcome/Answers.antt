@@ -4,6 +4,7 @@ use mathlib.Core.Path.{◌≡◌, sym, ◌∙◌}
 use mathlib.Core.Bool.{true}
 use native.Mathlib.Omega.{arith}
 use Prim.Native.Nat.{◌*◌}
+use mathlib.Core.List.{[]}
 use Rattle.refusals.specs.Said.{accepts}
 use Rattle.refusals.specs.Said.Laws.{passed_said}
 use Rattle.shapes.specs.Shapes.{good_sides_test}

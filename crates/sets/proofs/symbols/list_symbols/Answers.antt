@@ -28,4 +28,4 @@ loop-a-preserved c =
 pub returns : goal.returns
 returns c =
     let i = c.loop-a.invariant in
-    (listed-number _ _ _ _ _ i.1 _ i.0 (omega arith), listed-all _ _ _ _ _ i.1 _ i.0 (omega arith))
+    record { value = listed-number _ _ _ _ _ i.1 _ i.0 (omega arith); listed_after = listed-all _ _ _ _ _ i.1 _ i.0 (omega arith) }
