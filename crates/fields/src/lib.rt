@@ -1,2 +1,4 @@
 // Records as numbers, for Rust and C.
+#![tactic(auto)]
+
 pub mod reader;

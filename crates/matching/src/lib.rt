@@ -1,3 +1,5 @@
 // A window against a pattern: the first position at which they part, and the two cells; window after window.
+#![tactic(auto)]
+
 pub mod compare;
 pub mod windows;

@@ -1,2 +1,4 @@
 // The reader of a listing.
+#![tactic(auto)]
+
 pub mod reader;

@@ -23,8 +23,8 @@ row_start_le c = product_le _ _ 255 255 (omega arith) (omega arith)
 -- what the row's links and last places are, of the strip's own sequence
 linked : (c : After-link_row) → let a = c.args in
     LinkedRow (strip_symbols a.text.now a.t) (c.loop-i.i * a.t.width) (length c.row_cells-row.result.now)
-    c.loop-i.links c.Link-row.new.1.1.0 c.Link-row.new.1.1.1.0
-linked c = c.Link-row.ensures _ (strip_row_at _ _ c.requires.0 _ c.loop-i-test.true _ c.row_cells-row.ensures) c.loop-i.invariant.1
+    c.loop-i.links c.link_row.new.last c.link_row.new.links
+linked c = c.link_row.ensures _ (strip_row_at _ _ c.requires.0 _ c.loop-i-test.true _ c.row_cells-row.ensures) c.loop-i.invariant.1
 
 all : (c : After-loop-i) → c.loop-i.i ≡ c.args.t.rows
 all c = omega arith

@@ -7,7 +7,7 @@ use Rattle.grid.proofs.strips.link_rows.Given as goal
 
 abbrev pub invariant-loop-i : goal.invariant-loop-i
 invariant-loop-i l = (l.i ≤ l.rows) × LastPlaces (strip_symbols l.text l.t) (l.i * l.t.width) l.last ×
-    (l.links ≡ stored_rows (link (strip_symbols l.text l.t)) (λ i2 j. i2 * l.t.width + j) i2 l.t.width l.initial.links)
+    (l.links ≡ stored_rows (link (strip_symbols l.text l.t)) (λ i2 j. i2 * l.t.width + j) l.i l.t.width l.initial.links)
 
 abbrev pub decreases-loop-i : goal.decreases-loop-i
 decreases-loop-i l = l.rows - l.i

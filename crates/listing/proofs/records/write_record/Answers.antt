@@ -20,16 +20,26 @@ pub put_five-requires : goal.put_five-requires
 put_five-requires c = room_for _ _ c.in-Closing.is c.requires
 
 pub returns-in-Found : goal.returns-in-Found
-returns-in-Found c = record_written _ _ _ c.in-Found.is c.put_three.ensures
+returns-in-Found c =
+    let all = record_written _ _ _ c.in-Found.is c.put_three.ensures
+    in record { value = all.0; listing_after = all.1 }
 
 pub returns-in-Pair : goal.returns-in-Pair
-returns-in-Pair c = record_written _ _ _ c.in-Pair.is c.put_three-in-Pair.ensures
+returns-in-Pair c =
+    let all = record_written _ _ _ c.in-Pair.is c.put_three-in-Pair.ensures
+    in record { value = all.0; listing_after = all.1 }
 
 pub returns-in-AlikeInPattern : goal.returns-in-AlikeInPattern
-returns-in-AlikeInPattern c = record_written _ _ _ c.in-AlikeInPattern.is c.put_mismatch.ensures
+returns-in-AlikeInPattern c =
+    let all = record_written _ _ _ c.in-AlikeInPattern.is c.put_mismatch.ensures
+    in record { value = all.0; listing_after = all.1 }
 
 pub returns-in-AlikeInWindow : goal.returns-in-AlikeInWindow
-returns-in-AlikeInWindow c = record_written _ _ _ c.in-AlikeInWindow.is c.put_mismatch-in-AlikeInWindow.ensures
+returns-in-AlikeInWindow c =
+    let all = record_written _ _ _ c.in-AlikeInWindow.is c.put_mismatch-in-AlikeInWindow.ensures
+    in record { value = all.0; listing_after = all.1 }
 
 pub returns-in-Closing : goal.returns-in-Closing
-returns-in-Closing c = record_written _ _ _ c.in-Closing.is c.put_five.ensures
+returns-in-Closing c =
+    let all = record_written _ _ _ c.in-Closing.is c.put_five.ensures
+    in record { value = all.0; listing_after = all.1 }

@@ -1,0 +1,10 @@
+-- What holds each time a loop of `reach::reach` begins a round, and what falls; `Answers.antt` says why.
+use Prim.Native.Nat.{◌+◌, ◌-◌, ◌*◌}
+use Rattle.reach.specs.Reach.Laws.{PartsTo}
+use Rattle.reach.proofs.reach.reach.Given as goal
+
+abbrev pub invariant-loop-at : goal.invariant-loop-at
+invariant-loop-at l = PartsTo l.text l.s l.pattern (l.top * l.s.width) ((l.top + l.height) * l.s.width) l.at l.column l.begin l.last
+
+abbrev pub decreases-loop-at : goal.decreases-loop-at
+decreases-loop-at l = l.stop - l.at
