@@ -1,2 +1,4 @@
 // The bijection of a match, as its two columns.
+#![tactic(auto)]
+
 pub mod columns;

@@ -10,10 +10,9 @@ use Rattle.fields.proofs.reader.read_fields.Goals as goal
 pub returns-in-Whole : goal.returns-in-Whole
 returns-in-Whole c =
     let old = c.args.old in
-    let whole = c.answer-1.given in
     c.fields_of.ensures
-    ∙ fields_whole whole.0.0 whole.0.1.0.at old
-    ∙ sym (ap (λ (r : Read). fields_by (read_said r) old) whole.1)
+    ∙ fields_whole c.in-Whole.item c.in-Whole.field-1.at old
+    ∙ sym (ap (λ (r : Read). fields_by (read_said r) old) c.in-Whole.is)
 
 pub returns-in-Refused : goal.returns-in-Refused
 returns-in-Refused c = let old = c.args.old in sym (ap (λ (r : Read). fields_by (read_said r) old) c.in-Refused.is)

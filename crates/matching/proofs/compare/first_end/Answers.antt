@@ -33,16 +33,13 @@ text_byte c k = omega (arith, c.type_inv.text k)
 wide : (c : Then-j-v)
     → length c.window_row-row.result.now ≡ c.args.v.width
 wide c =
-    let i = c in
-    row_long _ _ _ (entry i).pre.0 (entry i).pre.1 _ (entry i).pre.2 _ _ _ i.loop-test.taken
-    i.before.loop.inv _ (row_is (goal.at.Then-j-v c).After-window_row-row)
+    row_long _ _ _ c.requires.0 c.requires.1 _ c.requires.2 _ _ _ c.loop-i-test.true
+    c.loop-i.invariant _ (row_is (goal.at.Then-j-v c).After-window_row-row)
 
-found : (c : Then-j-v) → let i = c in
-    i.before.loop.from + c.part_end-j.result < length (entry i).args.pattern.now
+found : (c : Then-j-v) → c.loop-i.from + c.part_end-j.result < length c.args.pattern.now
 found c =
-    let i = c in
-    found_inside _ _ _ (entry i).pre.0 (entry i).pre.1 _ (entry i).pre.2 _ _ _ i.loop-test.taken
-    i.before.loop.inv _ (row_is (goal.at.Then-j-v c).After-window_row-row) (text_byte i) _ _
+    found_inside _ _ _ c.requires.0 c.requires.1 _ c.requires.2 _ _ _ c.loop-i-test.true
+    c.loop-i.invariant _ (row_is (goal.at.Then-j-v c).After-window_row-row) (text_byte (goal.at.Then-j-v c).In-loop-i) _ _
     c.part_end-j.ensures c.if-j-v.true
 
 pub loop-i-init : goal.loop-i-init
@@ -69,17 +66,15 @@ overflow_add-from c = omega (arith, c.if-j-v.true, small (goal.at.overflow_add-f
 
 pub earlier_by-requires : goal.earlier_by-requires
 earlier_by-requires c =
-    let i = c in
-    let near = found_near _ _ _ (entry i).pre.0 (entry i).pre.1 _ (entry i).pre.2 _ _ _ i.loop-test.taken
-    i.before.loop.inv _ (row_is (goal.at.earlier_by-requires c).After-window_row-row) (text_byte i) _ _ c.part_end-j.ensures
+    let near = found_near _ _ _ c.requires.0 c.requires.1 _ c.requires.2 _ _ _ c.loop-i-test.true
+    c.loop-i.invariant _ (row_is (goal.at.earlier_by-requires c).After-window_row-row) (text_byte (goal.at.earlier_by-requires c).In-loop-i) _ _ c.part_end-j.ensures
     c.if-j-v.true (get_or c.window_row-row.result.now c.part_end-j.result 0) in
-    ((entry i).pre.2.long, omega (arith, near), found (goal.at.earlier_by-requires c).Then-j-v)
+    (c.requires.2.long, omega (arith, near), found (goal.at.earlier_by-requires c).Then-j-v)
 
 pub returns-then-j-v : goal.returns-then-j-v
 returns-then-j-v c =
-    let i = c in
-    rows_found _ _ _ (entry i).pre.0 (entry i).pre.1 _ (entry i).pre.2 _ _ _ i.loop-test.taken
-    i.before.loop.inv _ (row_is (goal.at.returns-then-j-v c).After-window_row-row) (text_byte i) _ _
+    rows_found _ _ _ c.requires.0 c.requires.1 _ c.requires.2 _ _ _ c.loop-i-test.true
+    c.loop-i.invariant _ (row_is (goal.at.returns-then-j-v c).After-window_row-row) (text_byte (goal.at.returns-then-j-v c).In-loop-i) _ _
     c.part_end-j.ensures c.if-j-v.true _ c.earlier_by.ensures
 
 pub overflow_add-from-in-loop-i : goal.overflow_add-from-in-loop-i

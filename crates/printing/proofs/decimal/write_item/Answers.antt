@@ -15,8 +15,7 @@ use Rattle.printing.proofs.decimal.write_item.Goals.{After-slice_known-2-1}
 mark_room : (c : After-slice_known-2-1) → c.write_decimal-end.result + 1 ≤ length c.write_decimal-end.new.output
 mark_room c =
     let a = c.args in
-    let w = (c.write_decimal-end.ensures.value, c.write_decimal-end.ensures.output_after) in
-    second_room a.output.now a.at (decimal a.n) (a.mark ∷ []) _ refl c.requires _ _ w.1 w.0
+    second_room a.output.now a.at (decimal a.n) (a.mark ∷ []) _ refl c.requires _ _ c.write_decimal-end.ensures.output_after c.write_decimal-end.ensures.value
 
 pub write_decimal-end-requires : goal.write_decimal-end-requires
 write_decimal-end-requires c =
@@ -33,7 +32,6 @@ pub returns : goal.returns
 returns c =
     let all =
     let a = c.args in
-    let w = (c.write_decimal-end.ensures.value, c.write_decimal-end.ensures.output_after) in
-    both-written a.output.now a.at (decimal a.n) (a.mark ∷ []) _ refl c.requires _ _ w.1 w.0 _ _
+    both-written a.output.now a.at (decimal a.n) (a.mark ∷ []) _ refl c.requires _ _ c.write_decimal-end.ensures.output_after c.write_decimal-end.ensures.value _ _
     (written-set _ _ a.mark (omega (arith, mark_room c))) refl
     in record { value = all.0; output_after = all.1 }

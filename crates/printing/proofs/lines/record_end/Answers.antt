@@ -4,8 +4,6 @@
 use Rattle.printing.specs.Lines.Writing.{whole_end, no_refusal}
 use Rattle.printing.proofs.lines.record_end.Goals as goal
 
-record-end-spec = tie.close (tie.spec read-requires enum-known-read enum_told returns returns-2)
-
 pub returns-in-Whole : goal.returns-in-Whole
 returns-in-Whole c =
     whole_end c.args.listing.now c.args.at c.requires _ c.read-read.ensures _ _ c.in-Whole.is

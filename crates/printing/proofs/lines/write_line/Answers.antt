@@ -13,12 +13,10 @@ use Rattle.printing.proofs.lines.write_line.Goals.{After-slice_known-2-1}
 
 -- behind the last number the line is whole
 line_whole : (c : After-slice_known-2-1) → let a = c.args in
-    let w = c.write_item in
-    (w.result ≡ a.at + length (line_of a.bytes.now)) × (w.new.0 ≡ written a.output.now a.at (line_of a.bytes.now))
+    (c.write_item.result ≡ a.at + length (line_of a.bytes.now)) × (c.write_item.new.output ≡ written a.output.now a.at (line_of a.bytes.now))
 line_whole c =
     let i = c.loop-i in
-    let w = (c.write_item.ensures.value, c.write_item.ensures.output_after) in
-    last_whole _ _ _ _ i.invariant.1 i.invariant.0 c.loop-i-test.false _ _ w.1 w.0
+    last_whole _ _ _ _ i.invariant.1 i.invariant.0 c.loop-i-test.false _ _ c.write_item.ensures.output_after c.write_item.ensures.value
 
 pub loop-i-init : goal.loop-i-init
 loop-i-init c = (c.requires.0, left_all _ _ _ c.requires.1)
@@ -30,8 +28,7 @@ pub loop-i-preserved : goal.loop-i-preserved
 loop-i-preserved c =
     let i = c.loop-i in
     let t = c.loop-i-test.true in
-    let w = (c.write_item-end.ensures.value, c.write_item-end.ensures.output_after) in
-    (t, number_less _ _ _ _ i.invariant.1 t _ _ w.1 w.0)
+    (t, number_less _ _ _ _ i.invariant.1 t _ _ c.write_item-end.ensures.output_after c.write_item-end.ensures.value)
 
 pub write_item-requires : goal.write_item-requires
 write_item-requires c = let i = c.loop-i in last_room _ _ _ _ i.invariant.1 i.invariant.0 c.loop-i-test.false

@@ -16,13 +16,14 @@ inside c =
     let i = c.loop-place in
     next_inside c.args.listing.now c.args.output.now c.args.at i.output i.end i.place i.invariant c.requires.0 c.loop-place-test.true
     c.record_end-next.result c.record_end-next.ensures
-record-end-requires c κs =
-    let o = c.before.before.before.before in
-    let i = c.before.loop in
-    record_here o.args.listing.now o.args.output.now o.args.at i.output i.end i.place i.invariant o.requires.0 c.loop-test.true
 
 pub loop-place-init : goal.loop-place-init
 loop-place-init c = printed_none _ _ _ c.requires.1
+
+pub record_end-next-requires : goal.record_end-next-requires
+record_end-next-requires c =
+    let i = c.loop-place in
+    record_here c.args.listing.now c.args.output.now c.args.at i.output i.end i.place i.invariant c.requires.0 c.loop-place-test.true
 
 pub slice_bounds-write_line-count : goal.slice_bounds-write_line-count
 slice_bounds-write_line-count c = omega (arith, (inside c).0)
@@ -45,10 +46,9 @@ loop-place-smaller c = let e = inside (goal.at.loop-place-smaller c).After-write
 pub loop-place-preserved : goal.loop-place-preserved
 loop-place-preserved c =
     let i = c.loop-place in
-    let w = (c.write_line-end.ensures.value, c.write_line-end.ensures.output_after) in
     printed_more c.args.listing.now c.args.output.now c.args.at i.output i.end i.place i.invariant c.requires.0
     c.loop-place-test.true c.record_end-next.result
-    c.record_end-next.ensures _ _ w.0 w.1
+    c.record_end-next.ensures _ _ c.write_line-end.ensures.value c.write_line-end.ensures.output_after
 
 pub shape_of-output : goal.shape_of-output
 shape_of-output c =

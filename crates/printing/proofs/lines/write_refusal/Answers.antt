@@ -15,14 +15,11 @@ write_bytes-end-requires c =
 pub write_item-requires : goal.write_item-requires
 write_item-requires c =
     let a = c.args in
-    let w = (c.write_bytes-end.ensures.value, c.write_bytes-end.ensures.output_after) in
-    second_room a.output.now a.at refused_word (decimal a.number ++ (10 ∷ [])) _ (refusal_parts a.number) c.requires _ _ w.1 w.0
+    second_room a.output.now a.at refused_word (decimal a.number ++ (10 ∷ [])) _ (refusal_parts a.number) c.requires _ _ c.write_bytes-end.ensures.output_after c.write_bytes-end.ensures.value
 
 pub returns : goal.returns
 returns c =
     let all =
     let a = c.args in
-    let w = (c.write_bytes-end.ensures.value, c.write_bytes-end.ensures.output_after) in
-    let v = (c.write_item.ensures.value, c.write_item.ensures.output_after) in
-    both-written a.output.now a.at refused_word (decimal a.number ++ (10 ∷ [])) _ (refusal_parts a.number) c.requires _ _ w.1 w.0 _ _ v.1 v.0
+    both-written a.output.now a.at refused_word (decimal a.number ++ (10 ∷ [])) _ (refusal_parts a.number) c.requires _ _ c.write_bytes-end.ensures.output_after c.write_bytes-end.ensures.value _ _ c.write_item.ensures.output_after c.write_item.ensures.value
     in record { value = all.0; output_after = all.1 }

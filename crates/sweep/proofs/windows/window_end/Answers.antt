@@ -45,8 +45,7 @@ ready_ends-requires c =
 
 pub next_end-requires : goal.next_end-requires
 next_end-requires c =
-    let made = (c.ready_ends.ensures.own_so_far, c.ready_ends.ensures.width_bound) in
-    run_asks _ _ _ _ _ _ _ (sweep_with _ _ _ _ _ _ _ c.requires.0 c.requires.1 _ _ made.0) c.requires.1 _ _ _ _ c.requires.2 c.requires.3 (λ _. made.1)
+    run_asks _ _ _ _ _ _ _ (sweep_with _ _ _ _ _ _ _ c.requires.0 c.requires.1 _ _ c.ready_ends.ensures.own_so_far) c.requires.1 _ _ _ _ c.requires.2 c.requires.3 (λ _. c.ready_ends.ensures.width_bound)
 
 pub returns : goal.returns
 returns c = record { next_is = c.next_end.ensures; own_so_far = c.ready_ends.ensures.own_so_far }
