@@ -18,7 +18,7 @@ use Rattle.claims.proofs.mismatches.alike_only.Goals.{After-window_symbol_in-y, 
 abbrev wanted : Start → Bool
 wanted o =
     let a = o.args in
-    alike_only_test a.alike-in-pattern (cell_of_pattern a.pattern.now) (window_of a.text.now a.v)
+    alike_only_test a.alike_in_pattern (cell_of_pattern a.pattern.now) (window_of a.text.now a.v)
     (a.q.row * a.v.width + a.q.column) (a.p.row * a.v.width + a.p.column)
 
 -- the two tests on the pattern's side, and on the window's
@@ -30,7 +30,7 @@ by_pattern c s =
     let a = c.args in
     alike_in_pattern (cell_of_pattern a.pattern.now) (window_of a.text.now a.v) _ _ _ _ _ _
     c.pattern_symbol-a.ensures c.pattern_symbol-b.ensures c.window_symbol_in-x.ensures c.window_symbol_in-y.ensures
-    a.alike-in-pattern s
+    a.alike_in_pattern s
 
 by_window : (c : After-window_symbol_in-y) → c.args.alike_in_pattern ≡ false
     → both (eqb c.window_symbol_in-x.result c.window_symbol_in-y.result)
@@ -40,7 +40,7 @@ by_window c s =
     let a = c.args in
     alike_in_window (cell_of_pattern a.pattern.now) (window_of a.text.now a.v) _ _ _ _ _ _
     c.pattern_symbol-a.ensures c.pattern_symbol-b.ensures c.window_symbol_in-x.ensures c.window_symbol_in-y.ensures
-    a.alike-in-pattern s
+    a.alike_in_pattern s
 
 pub returns-then-a-b : goal.returns-then-a-b
 returns-then-a-b c = first_passes _ _ (eq-eqb _ _ c.if-a-b.true) ∙ by_pattern (goal.at.returns-then-a-b c).After-window_symbol_in-y c.if-alike_in_pattern.true

@@ -19,7 +19,7 @@ use Rattle.flags.proofs.swept.flags_to_match.Goals.{At-loop-top, In-loop-top, Th
 place_in : (c : In-loop-top) → let a = c.args in
     c.loop-top.top * across a.s + a.left < down a.s * across a.s
 place_in c =
-    place_lt (across c.args.s) (down c.args.s) c.loop-top.top c.args.false c.requires.2
+    place_lt (across c.args.s) (down c.args.s) c.loop-top.top c.args.left c.requires.2
     (omega (arith, c.loop-top-test.true))
 
 place_small : (c : In-loop-top) → let a = c.args in
@@ -94,14 +94,14 @@ shape_of-flags-then-linked c = rw length-set (length_flags (goal.at.shape_of-fla
 
 pub returns-then-linked : goal.returns-then-linked
 returns-then-linked c =
-    record { to_match = swept_to_match _ _ _ _ _ _ _ c.requires.0 c.requires.2 _ _ _ _ _ _ _ (omega (arith, c.loop-top-test.true)) c.loop-top.invariant _ _ refl c.swept_flag-r.ensures.flag_value (flag_one c); own_so_far = c.swept_flag-r.ensures.run_at.1 }
+    record { to_match = swept_to_match _ _ _ _ _ _ _ c.requires.0 c.requires.2 _ _ _ _ _ _ _ (omega (arith, c.loop-top-test.true)) c.loop-top.invariant _ _ refl c.swept_flag-r.ensures.flag_value (flag_one c); own_so_far = c.swept_flag-r.ensures.own_so_far }
 
 pub loop-top-smaller : goal.loop-top-smaller
 loop-top-smaller c = omega (arith, c.loop-top-test.true)
 
 pub loop-top-preserved : goal.loop-top-preserved
 loop-top-preserved c =
-    swept_more _ _ _ _ _ _ _ c.requires.0 c.requires.2 _ _ _ _ _ _ _ (omega (arith, c.loop-top-test.true)) c.loop-top.invariant _ _ refl c.swept_flag-r.ensures.flag_value _ _ _ _ _ c.swept_flag-r.ensures.run_at.0 c.swept_flag-r.ensures.run_at.1
+    swept_more _ _ _ _ _ _ _ c.requires.0 c.requires.2 _ _ _ _ _ _ _ (omega (arith, c.loop-top-test.true)) c.loop-top.invariant _ _ refl c.swept_flag-r.ensures.flag_value _ _ _ _ _ c.swept_flag-r.ensures.run_at c.swept_flag-r.ensures.own_so_far
 
 pub shape_of-flags : goal.shape_of-flags
 shape_of-flags c = length_flags (goal.at.shape_of-flags c).At-loop-top

@@ -18,13 +18,13 @@ pub bounds-flags-k : goal.bounds-flags-k
 bounds-flags-k c = omega (arith, c.requires.5)
 
 pub returns-then-flags-k-ne1 : goal.returns-then-flags-k-ne1
-returns-then-flags-k-ne1 c = absurd (true_false e refl)
+returns-then-flags-k-ne1 c e = absurd (true_false e refl)
 
 pub matches_repaying-n-requires : goal.matches_repaying-n-requires
 matches_repaying-n-requires c = (c.requires.0, c.requires.2, c.requires.3)
 
 pub returns-then-top-n : goal.returns-then-top-n
-returns-then-top-n c = absurd (true_false e refl)
+returns-then-top-n c e = absurd (true_false e refl)
 
 pub overflow_add-top : goal.overflow_add-top
 overflow_add-top c = omega (arith, c.matches_repaying-n.ensures, c.requires.7)
@@ -33,7 +33,7 @@ pub overflow_add-top-2 : goal.overflow_add-top-2
 overflow_add-top-2 c = omega (arith, c.matches_repaying-n.ensures, c.requires.7, c.requires.1)
 
 pub returns-then-s-top : goal.returns-then-s-top
-returns-then-s-top c = absurd (true_false e refl)
+returns-then-s-top c e = absurd (true_false e refl)
 
 pub overflow_mul-result : goal.overflow_mul-result
 overflow_mul-result c =
@@ -47,4 +47,4 @@ pub bounds-flags-k-2 : goal.bounds-flags-k-2
 bounds-flags-k-2 c = omega (arith, c.requires.5, above (goal.at.bounds-flags-k-2 c).Else-s-top)
 
 pub returns : goal.returns
-returns c = c.if-flags-k-ne1.false
+returns c _ = c.if-flags-k-ne1.false

@@ -9,9 +9,7 @@ use Rattle.flags.proofs.swept.swept_flag.Goals as goal
 
 pub returns-then-count-symbols : goal.returns-then-count-symbols
 returns-then-count-symbols c =
-    let all =
-    (told_by_count _ _ _ _ c.args.s _ _ c.if-count-symbols.true, (run_past _ _ _ _ _ _ _ _ c.requires.4, c.requires.0.owns))
-    in record { flag_value = all.0; run_at = all.1; own_so_far = all.2 }
+    record { flag_value = told_by_count _ _ _ _ c.args.s _ _ c.if-count-symbols.true; run_at = run_past _ _ _ _ _ _ _ _ c.requires.4; own_so_far = c.requires.0.owns }
 
 pub pairs_pass-requires : goal.pairs_pass-requires
 pairs_pass-requires c = (
@@ -24,11 +22,7 @@ pairs_pass-requires c = (
 
 pub returns-then-not-pairs_pass : goal.returns-then-not-pairs_pass
 returns-then-not-pairs_pass c =
-    let all = (
-      told_by_pairs _ _ _ _ c.args.s _ _ c.if-count-symbols.false (c.pairs_pass.ensures (c.if-not-pairs_pass.true)),
-      (run_past _ _ _ _ _ _ _ _ c.requires.4, c.requires.0.owns),
-    )
-    in record { flag_value = all.0; run_at = all.1; own_so_far = all.2 }
+    record { flag_value = told_by_pairs _ _ _ _ c.args.s _ _ c.if-count-symbols.false (c.pairs_pass.ensures (c.if-not-pairs_pass.true)); run_at = run_past _ _ _ _ _ _ _ _ c.requires.4; own_so_far = c.requires.0.owns }
 
 pub overflow_mul-top : goal.overflow_mul-top
 overflow_mul-top c =
@@ -42,16 +36,12 @@ fresh_flag-requires c =
 
 pub returns-then-reached-top : goal.returns-then-reached-top
 returns-then-reached-top c =
-    let all =
     let got = c.fresh_flag.ensures in
-    (told_by_end _ _ _ _ c.args.s _ _ c.if-count-symbols.false _ _ got, (got.run, c.requires.0.owns))
-    in record { flag_value = all.0; run_at = all.1; own_so_far = all.2 }
+    record { flag_value = told_by_end _ _ _ _ c.args.s _ _ c.if-count-symbols.false _ _ got; run_at = got.run; own_so_far = c.requires.0.owns }
 
 pub lower_flag-requires : goal.lower_flag-requires
 lower_flag-requires c = (c.requires.0, c.requires.1, c.requires.2, c.requires.4)
 
 pub returns : goal.returns
 returns c =
-    let all =
-    (told_by_end _ _ _ _ c.args.s _ _ c.if-count-symbols.false _ _ c.lower_flag.ensures.flag_is, (c.lower_flag.ensures.flag_is.run, c.lower_flag.ensures.own_so_far))
-    in record { flag_value = all.0; run_at = all.1; own_so_far = all.2 }
+    record { flag_value = told_by_end _ _ _ _ c.args.s _ _ c.if-count-symbols.false _ _ c.lower_flag.ensures.flag_is; run_at = c.lower_flag.ensures.flag_is.run; own_so_far = c.lower_flag.ensures.own_so_far }
