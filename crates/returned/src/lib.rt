@@ -1,4 +1,6 @@
 // What the search and the check return to Rust and C.
+#![tactic(auto)]
+
 pub mod checking;
 pub mod scales;
 pub mod searching;

@@ -35,6 +35,8 @@ flag_linked-requires c =
 
 pub returns : goal.returns
 returns c =
-    let all =
-    (c.flag_linked.ensures.flagged_below c.args.flags.now c.flags_to_match-from.ensures.to_match.written, c.flag_linked.ensures.rest_kept)
-    in record { flags_after = all.0; rest_kept = all.1.0; own_so_far = all.1.1 }
+    record {
+      flags_after = c.flag_linked.ensures.flagged_below c.args.flags.now c.flags_to_match-from.ensures.to_match.written;
+      rest_kept = c.flag_linked.ensures.rest_kept;
+      own_so_far = c.flag_linked.ensures.own_so_far;
+    }

@@ -2,12 +2,12 @@
 -- than b in the window.
 -- Assumes nothing.
 use mathlib.Core.Path.{sym, ◌∙◌}
-use mathlib.Core.Logic.{⊎_elim}
 use native.Mathlib.Omega.{arith}
 use Rattle.matching.specs.Compare.{window_of}
 use Rattle.matching.specs.Compare.Positions.{positions_small}
 use Rattle.pairs.specs.Pairs.{image_none, image_more, image_all, image_other}
 use Rattle.found.proofs.window.all_cells_have.Goals as goal
+use Rattle.found.proofs.window.all_cells_have.Goals.{then-pattern-p+else-symbol_at-b, else-pattern-p}
 
 pub loop-p-init : goal.loop-p-init
 loop-p-init c = let a = c.args in image_none _ (window_of a.text.now a.v) _ _
@@ -31,7 +31,10 @@ loop-p-smaller c = omega (arith, c.loop-p-test.true)
 pub loop-p-preserved : goal.loop-p-preserved
 loop-p-preserved c =
     let i = c.loop-p in
-    image_more _ _ _ _ i.p i.invariant (⊎_elim (λ w _. sym w.1.ensures ∙ w.2.left) (λ w e. absurd (w.left e)) c.if-pattern-p.branch)
+    image_more _ _ _ _ i.p i.invariant (elim c.if-pattern-p.branch [
+      | then-pattern-p+else-symbol_at-b w ↦ λ _. sym w.symbol_at.ensures ∙ w.if-symbol_at-b.false
+      | else-pattern-p w ↦ λ e. absurd (w.if-pattern-p.false e)
+    ])
 
 pub returns : goal.returns
 returns c = sym (image_all _ _ _ _ c.loop-p.p _ (omega (arith, c.loop-p-test.false, c.requires.1)) c.loop-p.invariant)

@@ -1,28 +1,21 @@
 -- `window::check_pair` meets its contract: each way out is a law of the pair (`pair_refused`, `pair_other_kind`,
 -- `pair_other`, `pair_given`, `pair_unlike`, `pair_right`), whatever symbols were given before.
 -- Assumes nothing.
-use mathlib.Core.Path.{◌≡◌}
-use mathlib.Core.Logic.{inl, inr}
-use mathlib.Core.List.{[], ◌∷◌}
+use mathlib.Core.Path.{◌≡◌, refl}
+use Prim.Native.Nat.{ℕ}
 use native.Mathlib.Omega.{arith}
 use lib.ListN.{get_or}
-use types.Run.{OneOf}
-use denote.Enum.Declared.{tag_of}
 use Rattle.listing.specs.Records.{bytes_of}
 use Rattle.listing.specs.declared.records.Record.{Record}
 use Rattle.listing.specs.declared.records.Record.TheVariants.{Found, Pair, AlikeInPattern, AlikeInWindow, Closing}
-use Rattle.listing.specs.contracts.records.Record.{the_type}
 use Rattle.pairs.specs.Pairs.Reading.{pair_refused, pair_other_kind, pair_other, pair_given, pair_unlike}
 use Rattle.pairs.specs.Pairs.Reading.{pair_right}
 use Rattle.found.proofs.window.check_pair.Goals as goal
 
--- a record of another tag than a pair's is of another kind
-other_kind : (r : Record) → OneOf (0 ∷ 2 ∷ 3 ∷ 4 ∷ []) (tag_of the_type r) → get_or (bytes_of r) 0 0 ≡ 2 → ⊥
+-- a record that is no pair is of another kind
+other_kind : (r : Record) → ((x y : ℕ) → r ≡ Pair x y → ⊥) → get_or (bytes_of r) 0 0 ≡ 2 → ⊥
 other_kind (Found row column) k e = omega arith
-other_kind (Pair x y) (inl k) e = omega arith
-other_kind (Pair x y) (inr (inl k)) e = omega arith
-other_kind (Pair x y) (inr (inr (inl k))) e = omega arith
-other_kind (Pair x y) (inr (inr (inr k))) e = omega arith
+other_kind (Pair x y) k e = k x y refl
 other_kind (AlikeInPattern body) k e = omega arith
 other_kind (AlikeInWindow body) k e = omega arith
 other_kind (Closing found refused) k e = omega arith
@@ -32,7 +25,7 @@ returns-in_default c = λ before h. pair_refused _ _ _ _ _ _ _ _ _ h _ _ c.read_
 
 pub returns-in_default-item : goal.returns-in_default-item
 returns-in_default-item c =
-    λ before h. pair_other_kind _ _ _ _ _ _ _ _ _ h _ _ _ c.read_pair_first.ensures c.in-Whole.is (other_kind c.in-Whole.item c.in-Pair.keys2)
+    λ before h. pair_other_kind _ _ _ _ _ _ _ _ _ h _ _ _ c.read_pair_first.ensures c.in-Whole.is (other_kind c.in-Whole.item c.in_default-item.not-Pair)
 
 pub returns-then-x-a : goal.returns-then-x-a
 returns-then-x-a c =

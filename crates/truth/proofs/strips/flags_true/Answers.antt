@@ -2,6 +2,7 @@
 -- the pattern are kept, and the flags of the strips before are the truth.
 -- Assumes nothing.
 use native.Mathlib.Omega.{arith}
+use borrow.Author.Tests.{not-true, not-false}
 use Prim.Native.Nat.{◌<◌}
 use Rattle.placed.specs.Placing.{placed}
 use Rattle.shapes.specs.Shapes.{across}
@@ -58,7 +59,7 @@ strip_true-r-requires c =
 pub returns-then-not-r : goal.returns-then-not-r
 returns-then-not-r c =
     let a = c.args in
-    record { value = strips_wrong a.text.now (placed a.pattern.now a.g) a.s a.flags.now c.loop-left.left (within (goal.at.returns-then-not-r c).In-loop-left) _ (c.if-not-r.true) c.strip_true-r.ensures.truth_value; own_so_far = c.strip_true-r.ensures.own_so_far }
+    record { value = strips_wrong a.text.now (placed a.pattern.now a.g) a.s a.flags.now c.loop-left.left (within (goal.at.returns-then-not-r c).In-loop-left) _ (not-true _ c.if-not-r.true) c.strip_true-r.ensures.truth_value; own_so_far = c.strip_true-r.ensures.own_so_far }
 
 pub overflow_add-left : goal.overflow_add-left
 overflow_add-left c = omega (arith, c.loop-left-test.true, c.requires.0.shape)
@@ -74,7 +75,7 @@ loop-left-preserved c =
       sweep_with _ _ _ _ _ _ _ l.invariant.1 (within (goal.at.loop-left-preserved c).In-loop-left) _ _ c.strip_true-r.ensures.own_so_far,
       c.strip_true-r.ensures.spoiler_of,
       strips_more a.text.now (placed a.pattern.now a.g) a.s a.flags.now l.left l.invariant.3 _
-          (c.if-not-r.false) c.strip_true-r.ensures.truth_value,
+          (not-false _ c.if-not-r.false) c.strip_true-r.ensures.truth_value,
     )
 
 pub returns : goal.returns

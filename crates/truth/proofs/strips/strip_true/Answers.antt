@@ -152,10 +152,10 @@ loop-top-preserved c =
     let a = c.args in
     let l = c.loop-top in (
       omega (arith, c.loop-top-test.true),
-      sweep_with _ _ _ _ _ _ _ l.inv.1 c.requires.1 _ _ c.judged_end-r.ensures.own_so_far,
+      sweep_with _ _ _ _ _ _ _ l.invariant.1 c.requires.1 _ _ c.judged_end-r.ensures.own_so_far,
       run_next _ _ _ _ _ _ _ _ c.judged_end-r.ensures.next_is,
       c.kept_spoiler-spoiler.ensures,
-      true_more a.text.now (placed a.pattern.now a.g) a.s a.left a.flags.now l.top l.inv.4 (says_true (eq_tested _ _) (sym (told (goal.at.loop-top-preserved c).After-flag_agrees) ∙ c.if-not-flag_agrees.false)),
+      true_more a.text.now (placed a.pattern.now a.g) a.s a.left a.flags.now l.top l.invariant.4 (says_true (eq_tested _ _) (sym (told (goal.at.loop-top-preserved c).After-flag_agrees) ∙ c.if-not-flag_agrees.false)),
     )
 
 pub returns : goal.returns
