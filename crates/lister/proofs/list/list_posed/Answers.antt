@@ -2,7 +2,7 @@
 -- (`flags_trusted`); the rest is what is done once they are judged.
 -- Assumes nothing.
 use mathlib.Core.Path.{sym, ◌∙◌, ap}
-use Prim.Native.Nat.{ℕ, ◌<◌}
+use Prim.Native.Nat.{ℕ, ◌<◌, ◌≤◌}
 use native.Mathlib.Omega.{arith}
 use lib.ListN.{length, get_or}
 use lib.Seq.{length-take-le}
@@ -22,6 +22,11 @@ use Rattle.lister.proofs.list.list_posed.Goals.{After-truth_outcome-judged}
 -- the pattern is bytes
 bytes : (c : After-truth_outcome-judged) (k : ℕ) → get_or c.args.pattern.now k 0 < 256
 bytes c k = omega (arith, c.type_inv.pattern k)
+
+-- the symbols listed are as many as the list has room for
+listed_inside : (c : After-truth_outcome-judged) → c.read_pattern-symbols.result ≤ length c.read_pattern-symbols.new.listed
+listed_inside c =
+    front_inside _ (bytes c) _ _ _ c.read_pattern-symbols.ensures.value c.read_pattern-symbols.ensures.listed_after (zeros_long _ c.no_symbols-listed.ensures)
 
 pub read_pattern-symbols-requires : goal.read_pattern-symbols-requires
 read_pattern-symbols-requires c =
@@ -46,11 +51,11 @@ totals_of-totals-requires c = (
 )
 
 pub slice_bounds-listed-end : goal.slice_bounds-listed-end
-slice_bounds-listed-end c =
-    front_inside _ (bytes (goal.at.slice_bounds-listed-end c).After-truth_outcome-judged) _ _ _ c.read_pattern-symbols.ensures.value c.read_pattern-symbols.ensures.listed_after (zeros_long _ c.no_symbols-listed.ensures)
+slice_bounds-listed-end c = listed_inside (goal.at.slice_bounds-listed-end c).After-truth_outcome-judged
 
 pub slice_bounds-list_flagged-end : goal.slice_bounds-list_flagged-end
-slice_bounds-list_flagged-end c = sym (length-take-le _ _ (array-share-prefix-listed c))
+slice_bounds-list_flagged-end c =
+    sym (length-take-le _ _ (listed_inside (goal.at.slice_bounds-list_flagged-end c).After-truth_outcome-judged))
 
 pub list_flagged-requires : goal.list_flagged-requires
 list_flagged-requires c =
