@@ -1,5 +1,7 @@
 // Document 01's drafts, and one of ours, each under a heading: the records of its listing a line each, then the totals
 // of the search; what the check counts; or the refusal.
+#![tactic(auto)]
+
 mod output;
 mod running;
 

@@ -1,6 +1,8 @@
 // The operations for Rust and C: numbers and slices alone, nothing asked of the caller. A slice passes as a pointer and
 // then its length, an array as a pointer. An outcome is a number: 0 where it is accepted, else the number of the
 // refusal in the table of documents 01 and 02.
+#![tactic(auto)]
+
 pub mod bijections;
 pub mod checking;
 pub mod compare;

@@ -1,0 +1,13 @@
+-- `count::colourway_count` meets its contract: Count fixes number, values and buffers, and the totals are its
+-- values.
+-- Assumes nothing.
+use mathlib.Core.Path.{◌∙◌, ap}
+use Rattle.refusals.specs.Said.{said_number}
+use Rattle.searched.specs.Search.{Counted}
+use Rattle.returned.specs.Returned.{values_by}
+use Rattle.exports.proofs.count.colourway_count.Goals as goal
+
+pub returns : goal.returns
+returns c =
+    let s = c.count_windows-answer in
+    let e = s.ensures.0 in record { value = c.searched_number-number.ensures ∙ ap (λ (d : Counted). said_number d.said) e; totals_after = c.searched_totals.ensures ∙ ap (λ (d : Counted). values_by 2 d.said c.args.totals.now) e; flags_after = ap (λ (d : Counted). d.work) e; bytes = s.ensures.1 }

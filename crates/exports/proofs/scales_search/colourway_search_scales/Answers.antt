@@ -1,0 +1,13 @@
+-- `scales_search::colourway_search_scales` meets its contract: the search at every scale fixes number, values and buffers,
+-- and the totals are its values.
+-- Assumes nothing.
+use mathlib.Core.Path.{◌∙◌, ap}
+use Rattle.refusals.specs.Said.{said_number}
+use Rattle.searched.specs.Search.{Done}
+use Rattle.returned.specs.Returned.{values_by}
+use Rattle.exports.proofs.scales_search.colourway_search_scales.Goals as goal
+
+pub returns : goal.returns
+returns c =
+    let s = c.search_scales-answer in
+    let e = s.ensures.0 in record { value = c.summed_number-number.ensures ∙ ap (λ (d : Done). said_number d.said) e; totals_after = c.summed_totals.ensures ∙ ap (λ (d : Done). values_by 2 d.said c.args.totals.now) e; listing_after = ap (λ (d : Done). d.lent) e; bytes = s.ensures.1 }

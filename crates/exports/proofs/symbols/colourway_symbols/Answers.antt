@@ -1,0 +1,8 @@
+-- The words are those of the set that `symbol_set` answers.
+-- Assumes nothing.
+use mathlib.Core.Path.{◌∙◌, ap}
+use Rattle.values.specs.Symbols.{word_list}
+use Rattle.exports.proofs.symbols.colourway_symbols.Goals as goal
+
+pub returns : goal.returns
+returns c = c.words_of.ensures ∙ ap word_list c.symbol_set.ensures

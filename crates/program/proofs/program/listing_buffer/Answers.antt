@@ -1,0 +1,10 @@
+-- `program::listing_buffer` meets its contract: 65,536 bytes. By the law of a repeated number: to count them one by one would
+-- take the prover seconds.
+-- Assumes nothing.
+use lib.ListN.{length-replicate}
+use mathlib.Core.Path.{sym}
+use Prim.Native.Nat.{ℕ}
+use Rattle.program.proofs.program.listing_buffer.Goals as goal
+
+pub returns : goal.returns
+returns c = sym (length-replicate {A = ℕ} 65536 0)

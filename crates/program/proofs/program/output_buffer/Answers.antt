@@ -1,0 +1,10 @@
+-- `program::output_buffer` meets its contract: 262,144 bytes. By the law of a repeated number: to count them one by one would
+-- take the prover seconds.
+-- Assumes nothing.
+use lib.ListN.{length-replicate}
+use mathlib.Core.Path.{sym}
+use Prim.Native.Nat.{ℕ}
+use Rattle.program.proofs.program.output_buffer.Goals as goal
+
+pub returns : goal.returns
+returns c = sym (length-replicate {A = ℕ} 262144 0)
