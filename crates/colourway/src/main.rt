@@ -1,9 +1,13 @@
 // Document 01's program. Its work is `answer`, from the input's bytes to the output's; here they are read and written.
-ghost use Rattle.std.specs.Prelude.{◌≡◌, List, ℕ, length, take};
+#![tactic(auto)]
+
+ghost use Rattle.std.specs.Prelude.{◌≡◌, List, ℕ, length, take, IfOk};
+ghost use Rattle.io.specs.Counts.{IsPrefixLen};
 ghost use Rattle.program.specs.Program.{output_of};
 
-use libc::{STDIN_FILENO, STDOUT_FILENO};
 use program::program::answer;
+use std::io;
+use std::io::Read;
 
 // A byte more than the longest input that can be right, which has 4 sizes and twice 16,384 cells. Of a longer input no
 // more need be read: what stands behind does not change what is printed.
@@ -14,11 +18,25 @@ fn input_buffer() -> [u8; 32773]
     [0; 32773]
 }
 
-fn main() {
+// Reads until the buffer is full or the input ends, and answers how many bytes stand at the buffer's start.
+fn read_full<R: Read>(input: &mut R, buffer: &mut [u8]) -> io::Result<usize>
+    ensures { IfOk result (λ n. IsPrefixLen n buffer.new) }
+{
+    let mut done = 0;
+    while done < buffer.len() {
+        let n = input.read(&mut buffer[done..])?;
+        if n == 0 {
+            break;
+        }
+        done += n;
+    }
+    Ok(done)
+}
+
+fn main(rt: HostRuntime) -> io::Result<()> {
     let mut input = input_buffer();
-    let given = io::read_full(STDIN_FILENO, &mut input);
+    let mut reader = rt.stdin();
+    let given = read_full(&mut reader, &mut input)?;
     let output = answer(&input[..given]);
-    let bytes = output.bytes;
-    let length = output.length;
-    io::write_all(STDOUT_FILENO, &bytes[..length]);
+    rt.write_all(&output.bytes[..output.length])
 }

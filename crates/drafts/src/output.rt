@@ -2,43 +2,43 @@
 ghost use Rattle.std.specs.Prelude.{◌≡◌, ◌≤◌, length};
 ghost use Rattle.printing.specs.Lines.{Recorded};
 
-use libc::STDOUT_FILENO;
 use printing::lines::{write_lines, write_refusal};
 use refusals::refusals::{Refusal, refusal_number};
+use std::io;
 
 // Writes bytes as they are.
-pub fn print(bytes: &[u8]) {
-    io::write_all(STDOUT_FILENO, bytes);
+pub fn print(rt: &HostRuntime, bytes: &[u8]) -> io::Result<()> {
+    rt.write_all(bytes)
 }
 
 // A number in decimal.
-fn print_number(n: u64) {
-    io::print_decimal(STDOUT_FILENO, n);
+fn print_number(rt: &HostRuntime, n: u64) -> io::Result<()> {
+    print!(rt; "{n}")
 }
 
 // A number of a line: a space before it, unless it is the first.
-fn print_item(place: usize, n: u16) {
+fn print_item(rt: &HostRuntime, place: usize, n: u16) -> io::Result<()> {
     if place > 0 {
-        print(b" ");
+        print(rt, b" ")?;
     }
-    print_number(n as u64);
+    print_number(rt, n as u64)
 }
 
 // A line of numbers with one space between.
-pub fn print_line(numbers: &[u16]) {
+pub fn print_line(rt: &HostRuntime, numbers: &[u16]) -> io::Result<()> {
     let mut i = 0;
     while i < numbers.len() {
-        print_item(i, numbers[i]);
+        print_item(rt, i, numbers[i])?;
         i += 1;
     }
-    print(b"\n");
+    print(rt, b"\n")
 }
 
 // A number with its name before it, on a line.
-fn print_named(name: &[u8], n: usize) {
-    print(name);
-    print_number(n as u64);
-    print(b"\n");
+fn print_named(rt: &HostRuntime, name: &[u8], n: usize) -> io::Result<()> {
+    print(rt, name)?;
+    print_number(rt, n as u64)?;
+    print(rt, b"\n")
 }
 
 // Room for the line of a refusal.
@@ -49,42 +49,42 @@ fn refusal_room() -> [u8; 12]
 }
 
 // The line of a refusal.
-fn print_refused(why: Refusal) {
+fn print_refused(rt: &HostRuntime, why: Refusal) -> io::Result<()> {
     let mut output = refusal_room();
     let length = write_refusal(&mut output, 0, refusal_number(why));
-    print(&output[..length]);
+    print(rt, &output[..length])
 }
 
 // A refusal by its number; under refusal 11 the length that is needed, under 6, 7 and 15 the place in the listing.
-pub fn print_refusal(why: Refusal) {
-    print_refused(why);
+pub fn print_refusal(rt: &HostRuntime, why: Refusal) -> io::Result<()> {
+    print_refused(rt, why)?;
     match why {
-        Refusal::ListingBufferShort(needed) => print_named(b"needs ", needed),
-        Refusal::ListingForm(at) => print_named(b"at ", at),
-        Refusal::ListingFalse(at) => print_named(b"at ", at),
-        Refusal::CursorSpent(at) => print_named(b"at ", at),
-        _ => {}
+        Refusal::ListingBufferShort(needed) => print_named(rt, b"needs ", needed),
+        Refusal::ListingForm(at) => print_named(rt, b"at ", at),
+        Refusal::ListingFalse(at) => print_named(rt, b"at ", at),
+        Refusal::CursorSpent(at) => print_named(rt, b"at ", at),
+        _ => Ok(()),
     }
 }
 
 // How many windows are found and how many refused, with no end of the line.
-fn print_found(found: u16, refused: u16) {
-    print(b"found ");
-    print_number(found as u64);
-    print(b" refused ");
-    print_number(refused as u64);
+fn print_found(rt: &HostRuntime, found: u16, refused: u16) -> io::Result<()> {
+    print(rt, b"found ")?;
+    print_number(rt, found as u64)?;
+    print(rt, b" refused ")?;
+    print_number(rt, refused as u64)
 }
 
 // What a search counted, and the length of its listing.
-pub fn print_totals(found: u16, refused: u16, length: usize) {
-    print_found(found, refused);
-    print_named(b" length ", length);
+pub fn print_totals(rt: &HostRuntime, found: u16, refused: u16, length: usize) -> io::Result<()> {
+    print_found(rt, found, refused)?;
+    print_named(rt, b" length ", length)
 }
 
 // What a check counted.
-pub fn print_counts(found: u16, refused: u16) {
-    print_found(found, refused);
-    print(b"\n");
+pub fn print_counts(rt: &HostRuntime, found: u16, refused: u16) -> io::Result<()> {
+    print_found(rt, found, refused)?;
+    print(rt, b"\n")
 }
 
 // Room for the lines of the longest listing that a draft has, 64 bytes.
@@ -95,10 +95,10 @@ fn lines_room() -> [u8; 256]
 }
 
 // A whole listing, a record a line.
-pub fn print_listing(listing: &[u8])
+pub fn print_listing(rt: &HostRuntime, listing: &[u8]) -> io::Result<()>
     requires { Recorded listing.now × (length listing.now ≤ 64) }
 {
     let mut output = lines_room();
     let length = write_lines(&mut output, 0, listing);
-    print(&output[..length]);
+    print(rt, &output[..length])
 }

@@ -5,10 +5,12 @@ use crate::output::{print_counts, print_listing, print_refusal, print_totals};
 use rules::checked::Checked;
 use search::search::search;
 use searched::answer::Searched;
+use std::io;
 use verify::check::check;
 
 // Searches with the listing buffer that is lent, and prints the records of the listing and the totals, or the refusal.
 pub fn run_in(
+    rt: &HostRuntime,
     text: &[u8],
     rows: usize,
     columns: usize,
@@ -16,7 +18,7 @@ pub fn run_in(
     height: usize,
     width: usize,
     listing: &mut [u8],
-)
+) -> io::Result<()>
     requires { length listing.old ≤ 64 }
 {
     let mut links = [0u16; 256];
@@ -40,22 +42,40 @@ pub fn run_in(
             refused,
             length,
         } => {
-            print_listing(&listing[..length]);
-            print_totals(found, refused, length);
+            print_listing(rt, &listing[..length])?;
+            print_totals(rt, found, refused, length)
         }
-        Searched::Refused(why) => print_refusal(why),
+        Searched::Refused(why) => print_refusal(rt, why),
     }
 }
 
 // The same with a listing buffer that is long enough for every draft.
-pub fn run(text: &[u8], rows: usize, columns: usize, pattern: &[u8], height: usize, width: usize) {
+pub fn run(
+    rt: &HostRuntime,
+    text: &[u8],
+    rows: usize,
+    columns: usize,
+    pattern: &[u8],
+    height: usize,
+    width: usize,
+) -> io::Result<()> {
     let mut listing = [0u8; 64];
-    run_in(text, rows, columns, pattern, height, width, &mut listing);
+    run_in(
+        rt,
+        text,
+        rows,
+        columns,
+        pattern,
+        height,
+        width,
+        &mut listing,
+    )
 }
 
 // Checks a listing, and prints what stands in it as found and as refused, or the refusal with the place of the first
 // bad record.
 pub fn run_check(
+    rt: &HostRuntime,
     text: &[u8],
     rows: usize,
     columns: usize,
@@ -63,10 +83,10 @@ pub fn run_check(
     height: usize,
     width: usize,
     listing: &[u8],
-) {
+) -> io::Result<()> {
     let answer = check(text, rows, columns, pattern, height, width, listing);
     match answer {
-        Checked::Kept { found, refused } => print_counts(found, refused),
-        Checked::Refused(why) => print_refusal(why),
+        Checked::Kept { found, refused } => print_counts(rt, found, refused),
+        Checked::Refused(why) => print_refusal(rt, why),
     }
 }

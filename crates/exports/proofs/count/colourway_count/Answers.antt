@@ -9,5 +9,4 @@ use Rattle.exports.proofs.count.colourway_count.Goals as goal
 
 pub returns : goal.returns
 returns c =
-    let s = c.count_windows-answer in
-    let e = s.ensures.0 in record { value = c.searched_number-number.ensures ∙ ap (λ (d : Counted). said_number d.said) e; totals_after = c.searched_totals.ensures ∙ ap (λ (d : Counted). values_by 2 d.said c.args.totals.now) e; flags_after = ap (λ (d : Counted). d.work) e; bytes = s.ensures.1 }
+    let e = c.count_windows-answer.ensures.flags_after in record { value = c.searched_number-number.ensures ∙ ap (λ (d : Counted). said_number d.said) e; totals_after = c.searched_totals.ensures ∙ ap (λ (d : Counted). values_by 2 d.said c.args.totals.now) e; flags_after = ap (λ (d : Counted). d.work) e; bytes = c.count_windows-answer.ensures.bytes }

@@ -8,5 +8,4 @@ use Rattle.exports.proofs.list.colourway_list.Goals as goal
 
 pub returns : goal.returns
 returns c =
-    let s = c.list_windows-answer in
-    let e = s.ensures.0 in record { value = c.searched_number-number.ensures ∙ ap (λ (d : Filled). said_number d.said) e; totals_after = c.searched_totals.ensures ∙ ap (λ (d : Filled). values_by 2 d.said c.args.totals.now) e; listing_after = ap (λ (d : Filled). d.buffer) e; bytes = s.ensures.1 }
+    let e = c.list_windows-answer.ensures.listing_after in record { value = c.searched_number-number.ensures ∙ ap (λ (d : Filled). said_number d.said) e; totals_after = c.searched_totals.ensures ∙ ap (λ (d : Filled). values_by 2 d.said c.args.totals.now) e; listing_after = ap (λ (d : Filled). d.buffer) e; bytes = c.list_windows-answer.ensures.bytes }

@@ -9,5 +9,4 @@ use Rattle.exports.proofs.searching.colourway_search.Goals as goal
 
 pub returns : goal.returns
 returns c =
-    let s = c.search-answer in
-    let e = s.ensures.0 in record { value = c.searched_number-number.ensures ∙ ap (λ (d : Done). said_number d.said) e; totals_after = c.searched_totals.ensures ∙ ap (λ (d : Done). values_by 2 d.said c.args.totals.now) e; listing_after = ap (λ (d : Done). d.lent) e; bytes = s.ensures.1 }
+    let e = c.search-answer.ensures.listing_after in record { value = c.searched_number-number.ensures ∙ ap (λ (d : Done). said_number d.said) e; totals_after = c.searched_totals.ensures ∙ ap (λ (d : Done). values_by 2 d.said c.args.totals.now) e; listing_after = ap (λ (d : Done). d.lent) e; bytes = c.search-answer.ensures.bytes }

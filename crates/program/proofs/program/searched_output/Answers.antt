@@ -19,7 +19,9 @@ pub slice_bounds-listing-end : goal.slice_bounds-listing-end
 slice_bounds-listing-end c = size_inside (has_run (goal.at.slice_bounds-listing-end c).After-search-answer) _ _ _ c.in-Listed.is
 
 pub slice_bounds-listed_output-end : goal.slice_bounds-listed_output-end
-slice_bounds-listed_output-end c = sym (length-take-le _ _ (array-share-prefix-listing c))
+slice_bounds-listed_output-end c =
+    sym (length-take-le _ _
+    (size_inside (has_run (goal.at.slice_bounds-listed_output-end c).After-search-answer) _ _ _ c.in-Listed.is))
 
 pub listed_output-requires : goal.listed_output-requires
 listed_output-requires c = printable (has_run (goal.at.listed_output-requires c).After-search-answer) _ _ _ c.in-Listed.is
