@@ -1,16 +1,13 @@
 -- Pairs of cells that are alike in the pattern, as offsets from a window's corner in the text: where the cells of one
 -- of them are not alike in a window, a mismatch ends in it (`pairs_differ`), since a match keeps equal symbols equal.
 -- Assumes nothing.
-use Rattle.std.specs.Prelude.{◌≡◌, refl, Bool, true, false, not, List, ℕ, zero, suc, ◌+◌, ◌*◌, ◌/◌, ◌%◌, ◌≤◌, ◌<◌, eqb, length, get_or, set, replicate}
-use Rattle.std.proofs.Common.{sym, ◌∙◌, ap, ⊎_elim, add-mul, zero-mul, add-one, arith, length-set, get_or-set_same, get_or-set_other}
+use Rattle.std.specs.Prelude.{◌≡◌, refl, Bool, List, ℕ, ◌+◌, ◌≤◌, ◌<◌, eqb, length, get_or, set, replicate}
+use Rattle.std.proofs.Common.{◌∙◌, ap, zero-mul, arith, length-set, get_or-set_same, get_or-set_other}
 use Rattle.std.proofs.Math.Nat.{zero-div, zero-mod}
 use Rattle.std.proofs.lemmas.List.{length-replicate}
-use Rattle.theory.specs.Test.{pick, Tested, holds, fails}
-use Rattle.theory.specs.Test.Laws.{eq_tested, tested, tested_same, tested_iff, true_or_false, not_tested}
-use Rattle.theory.specs.First.{every}
-use Rattle.theory.specs.First.Laws.{first_spec, every_tested}
-use Rattle.theory.specs.Count.{count}
-use Rattle.theory.specs.Count.Laws.{count_none, members_all, length-members}
+use Rattle.theory.specs.Test.{Tested, holds, fails}
+use Rattle.theory.specs.Test.Laws.{eq_tested}
+use Rattle.theory.specs.First.Laws.{first_spec}
 use Rattle.theory.specs.Older.Laws.{zeros_at}
 use Rattle.theory.specs.Match.{ends, first_end}
 use Rattle.theory.specs.Match.Even.{Even, even_if}

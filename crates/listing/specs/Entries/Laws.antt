@@ -16,7 +16,7 @@ use Rattle.theory.specs.Test.{pick}
 use Rattle.listing.specs.Records.{bytes_of, mismatch_bytes}
 use Rattle.listing.specs.declared.records.MismatchBody.{MismatchBody}
 use Rattle.listing.specs.declared.records.Record.{Record}
-use Rattle.listing.specs.declared.records.Record.TheVariants.{Found, Pair, AlikeInPattern, AlikeInWindow}
+use Rattle.listing.specs.declared.records.Record.TheVariants.{Found, Pair}
 use Rattle.listing.specs.Entries.{bytes_all, pairs_of, mismatch_body_at, mismatch_record, entry_of, RightPairs}
 
 -- ---- bytes of records

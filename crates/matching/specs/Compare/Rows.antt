@@ -3,7 +3,7 @@
 -- list.
 -- Assumes nothing.
 use Rattle.std.specs.Prelude.{◌≡◌, refl, List, ℕ, ◌+◌, ◌-◌, ◌*◌, ◌≤◌, ◌<◌, length, get_or, take, drop}
-use Rattle.std.proofs.Common.{sym, ◌∙◌, ap, add-zero, add_assoc, zero-mul, suc-mul, mul-le-mul_right, add-one, arith, length-take, length-drop, get_or-take, get_or-drop}
+use Rattle.std.proofs.Common.{sym, ◌∙◌, ap, add_assoc, zero-mul, suc-mul, mul-le-mul_right, add-one, arith, length-take, length-drop, get_or-take, get_or-drop}
 use Rattle.std.proofs.Math.Nat.{add-sub_cancel_left}
 use Rattle.cells.specs.Windows.{cells_of_row}
 use Rattle.cells.specs.Windows.Laws.{row_cells_is, window_cell}

@@ -6,7 +6,7 @@ use Rattle.std.proofs.Common.{sym, ◌∙◌, ap, subst, add-zero, zero-mul, add
 use Rattle.std.proofs.Math.Nat.{div-eq_of_lt-le, div-div-eq-div-mul, lt-div-mul-add}
 use Rattle.placed.specs.Placing.{index_at, placed}
 use Rattle.placed.specs.Placing.Laws.{Enlarged, placed_known, placed_cell, place_inside, quotient_along}
-use Rattle.placed.specs.Placing.Laws.{scale_le, wide_le, wide_pos}
+use Rattle.placed.specs.Placing.Laws.{scale_le, wide_pos}
 use Rattle.placed.specs.Blocks.{AlikeTo, Shown, Onward, BlockAt}
 use Rattle.placed.specs.declared.blocks.Block.{Block}
 use Rattle.placed.specs.declared.placing.Placing.{Placing}

@@ -3,12 +3,12 @@
 -- as a product is Granlund and Montgomery's theorem (1994): the product exceeds a multiple by too little to reach the
 -- next.
 -- Assumes nothing.
-use Rattle.std.specs.Prelude.{◌≡◌, refl, Bool, true, false, List, [], ℕ, zero, suc, ◌+◌, ◌-◌, ◌*◌, ◌/◌, ◌%◌, ◌≤◌, ◌<◌, eqb, leb, length, get_or}
-use Rattle.std.proofs.Common.{sym, ◌∙◌, ap, subst, inl, inr, le_refl, le_trans, le_of_eq, lt_of_lt_of_le, lt_of_le_of_lt, lt-suc_self, add-lt-add_of_le_of_lt, mul_right_comm, mul_assoc, mul_comm, mul-add, add-mul, suc-mul, mul-le-mul, mul-le-mul_left, mul-le-mul_right, lt_of_mul-lt-mul_right, div-mul-le_self, div-lt_iff_lt-mul, div-add-mod', mod-lt, div-le_self, add-one, arith}
+use Rattle.std.specs.Prelude.{◌≡◌, refl, Bool, true, false, List, [], ℕ, suc, ◌+◌, ◌-◌, ◌*◌, ◌/◌, ◌%◌, ◌≤◌, ◌<◌, eqb, length, get_or}
+use Rattle.std.proofs.Common.{sym, ◌∙◌, ap, subst, le_refl, le_trans, le_of_eq, lt_of_lt_of_le, lt_of_le_of_lt, lt-suc_self, add-lt-add_of_le_of_lt, mul_right_comm, mul_assoc, mul_comm, mul-add, add-mul, suc-mul, mul-le-mul, mul-le-mul_left, mul-le-mul_right, lt_of_mul-lt-mul_right, div-mul-le_self, div-lt_iff_lt-mul, div-add-mod', mod-lt, div-le_self, add-one, arith}
 use Rattle.std.proofs.Math.Nat.{div-eq_of_lt-le, div-div-eq-div-mul, mul-add-div_right, lt-div-mul-add}
 use Rattle.std.proofs.Math.ListN.{get_or-eq_default}
 use Rattle.theory.specs.Test.{pick, both, Tested, holds, fails}
-use Rattle.theory.specs.Test.Laws.{pick_true, pick_false, tested_iff, eq_tested, le_tested, both_tested, says_true}
+use Rattle.theory.specs.Test.Laws.{pick_true, pick_false, tested_iff, eq_tested, le_tested, both_tested}
 use Rattle.theory.specs.Test.Laws.{is_true, lt_tested}
 use Rattle.theory.specs.Table.{table}
 use Rattle.theory.specs.Table.Laws.{length-table, get_or-table}

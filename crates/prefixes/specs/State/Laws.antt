@@ -7,7 +7,6 @@ use Prim.Native.Nat.{ℕ, ◌+◌, ◌-◌, ◌≤◌, ◌<◌}
 use Rattle.std.proofs.Math.ListN.{get_or}
 use Rattle.theory.specs.Test.{pick, Tested, holds, fails}
 use Rattle.theory.specs.Test.Laws.{eq_tested, lt_tested}
-use Rattle.theory.specs.First.{first}
 use Rattle.theory.specs.First.Laws.{first_is}
 use Rattle.theory.specs.Match.{ends, earliest, first_end}
 use Rattle.theory.specs.Older.{Older}

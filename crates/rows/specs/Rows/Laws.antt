@@ -1,7 +1,7 @@
 -- Laws of a part of a row: no cell passed, one more, a mismatch found, the part passed. The part knows no text: what it
 -- says holds of every strip that it lies in.
 -- Assumes nothing.
-use Rattle.std.specs.Prelude.{◌≡◌, refl, List, ℕ, zero, suc, ◌+◌, ◌-◌, ◌≤◌, ◌<◌, length, get_or, set, take, drop, eqb, Bool, true, false, not}
+use Rattle.std.specs.Prelude.{◌≡◌, refl, List, ℕ, zero, suc, ◌+◌, ◌-◌, ◌≤◌, ◌<◌, length, get_or, set, drop, eqb, Bool, true, false, not}
 use Rattle.std.proofs.Common.{sym, ◌∙◌, ap, add-zero, arith, length-take, length-drop, get_or-take, get_or-drop, set-set, eq-eqb, ne_eqb}
 use Rattle.std.proofs.Math.ListN.{get_or-eq_default}
 use Rattle.prefixes.specs.Prefixes.{suffix}

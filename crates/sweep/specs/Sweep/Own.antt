@@ -14,7 +14,7 @@ use Rattle.theory.specs.Test.{pick, Tested, holds, fails}
 use Rattle.theory.specs.Test.Laws.{eq_tested, lt_tested}
 use Rattle.theory.specs.Older.{Older}
 use Rattle.theory.specs.Older.Laws.{zeros_at, zeros_long}
-use Rattle.shapes.specs.Shapes.{Side, down}
+use Rattle.shapes.specs.Shapes.{Side}
 use Rattle.prefixes.specs.Prefixes.Ends.{ends_nowhere, self_end}
 use Rattle.reach.specs.Reach.Laws.{strip_cell}
 use Rattle.sweep.specs.Sweep.{RunAt, OwnEndIs, NextAt, NextIs, SidesOf, OwnMismatches, OwnSoFar, own_row_count}

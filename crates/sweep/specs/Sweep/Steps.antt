@@ -10,7 +10,6 @@ use Rattle.prefixes.specs.Prefixes.Inheritance.{inherited_end}
 use Rattle.prefixes.specs.State.{Swept}
 use Rattle.prefixes.specs.State.Laws.{swept_past, swept_lower}
 use Rattle.reach.specs.Reach.{ReachAt, Reached}
-use Rattle.shapes.specs.Shapes.{down}
 use Rattle.sweep.specs.declared.steps.Step.{Step}
 use Rattle.sweep.specs.Sweep.{OwnKnown, NextAt, NextIs}
 
