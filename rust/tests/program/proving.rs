@@ -139,7 +139,9 @@ fn a_change_is_checked() {
     assert_checked_after(|tree| tree.write("kit/id", "kit 2\n"));
     // What an earlier run left is gone, whole or in part.
     assert_checked_after(|tree| tree.remove("top/crates/colourway/out/colourway"));
-    assert_checked_after(|tree| fs::remove_dir_all(tree.at("top/crates/colourway/out")).expect("a folder"));
+    assert_checked_after(|tree| {
+        fs::remove_dir_all(tree.at("top/crates/colourway/out")).expect("a folder")
+    });
 }
 
 #[test]
@@ -255,8 +257,7 @@ fn assert_not_proved(tree: &Tree) -> String {
 #[test]
 fn a_verdict_of_the_prover_is_shown_and_not_asked_for_again() {
     let tree = Tree::new();
-    let not_proved =
-        "echo 'fn lower::second: not proved'\necho 'logic=not-proved'\nexit 1\n";
+    let not_proved = "echo 'fn lower::second: not proved'\necho 'logic=not-proved'\nexit 1\n";
     tree.write("kit/fail", not_proved);
     let said = assert_not_proved(&tree);
     assert!(said.contains("fn lower::second: not proved\n"), "{said}");

@@ -68,7 +68,12 @@ impl Tree {
         let tree = Tree {
             folder: std::env::temp_dir().join(name),
         };
-        for folder in ["top/crates/lower/src", "top/crates/colourway", "kit", "room"] {
+        for folder in [
+            "top/crates/lower/src",
+            "top/crates/colourway",
+            "kit",
+            "room",
+        ] {
             fs::create_dir_all(tree.at(folder)).expect("a folder");
         }
         install(at_top("colourway"), tree.at("top/colourway"));
