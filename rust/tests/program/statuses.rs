@@ -74,7 +74,9 @@ fn an_output_that_is_cut_short_is_4() {
     let run = on(&tree, b"");
     assert_eq!(run.status.code(), Some(4), "{}", run.said);
     assert_eq!(run.output, b"");
-    assert!(run.said.contains("Error: no room\ncolourway: the output is cut short"));
+    assert!(run
+        .said
+        .contains("Error: no room\ncolourway: the output is cut short"));
 }
 
 #[test]
