@@ -1,8 +1,8 @@
 /*
  * The proved operations for C and C++, x86-64. At the repository's top, with program.c for your own file:
  *
- *     rt staticlib exports
- *     cc -Iinclude program.c target/staticlib/libexports.a
+ *     (cd crates/exports && rt lib)
+ *     cc -Iinclude program.c crates/exports/out/libexports.a
  *
  * The first proves the library and writes it. It needs memcpy and memset of the C library, which cc links by itself,
  * and nothing else.

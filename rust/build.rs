@@ -1,16 +1,16 @@
-//! Links the static library of the proved crate `exports`, which `rt staticlib exports` writes.
+//! Links the static library of the proved crate `exports`, which `rt lib` writes in that crate's folder.
 
 use std::env;
 use std::path::Path;
 
 fn main() {
     let package = env::var("CARGO_MANIFEST_DIR").expect("cargo names the package's folder");
-    let folder = Path::new(&package).join("../target/staticlib");
+    let folder = Path::new(&package).join("../crates/exports/out");
     let library = folder.join("libexports.a");
     println!("cargo:rerun-if-changed={}", library.display());
     if !library.is_file() {
         eprintln!("There is no {}.", library.display());
-        eprintln!("Run `rt staticlib exports` at the repository's top first.");
+        eprintln!("Run `rt lib` in the folder crates/exports first.");
         eprintln!("It proves the crate and writes that file.");
         std::process::exit(1);
     }

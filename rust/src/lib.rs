@@ -126,7 +126,8 @@
 //!
 //! # To build and test
 //!
-//! `rt staticlib exports` and `rt check colourway` at the repository's top, then `cargo test --release --offline` here.
+//! `rt lib` in crates/exports and `./colourway < drafts/first.in` at the repository's top, then
+//! `cargo test --release --offline` here.
 //! To measure the search beside a plain one, and count, list, check and the searches at scales beside the search:
 //! `cargo run --release --offline -p bench`.
 //! `include/colourway.h` has the same operations for C, and how to link them.

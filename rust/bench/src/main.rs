@@ -2,7 +2,7 @@
 //! searches at scales beside the search, in one run and on the same inputs. No time is asserted: what misses a bar is
 //! marked.
 //!
-//! `cargo run --release --offline -p bench`, after `rt staticlib exports` at the repository's top. With an argument
+//! `cargo run --release --offline -p bench`, after `rt lib` in crates/exports. With an argument
 //! only the classes are measured in whose names it stands: `cargo run --release --offline -p bench -- stripes`.
 
 /// Calls a proved operation on a text and a pattern: these two with their sides, and then what else it takes.

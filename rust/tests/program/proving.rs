@@ -68,7 +68,7 @@ fn the_first_run_says_what_it_does_and_how_far_it_is() {
     assert!(lines[0].starts_with(PROVING) && lines[0].contains("minutes"));
     assert_eq!(
         lines[1..],
-        ["rt: lower proved (1 s)", "rt: colourway proved (2 s)"]
+        ["colourway: proved: lower", "colourway: proved: colourway"]
     );
 }
 
@@ -79,10 +79,10 @@ fn progress_is_said_before_the_check_ends() {
     tree.write("kit/hold", "");
     let (child, mut said) = begun(&tree);
     assert!(next_line(&mut said).starts_with(PROVING));
-    assert_eq!(next_line(&mut said), "rt: lower proved (1 s)\n");
-    assert!(!tree.at("top/target/bin/colourway").exists());
+    assert_eq!(next_line(&mut said), "colourway: proved: lower\n");
+    assert!(!tree.at("top/crates/colourway/out/colourway").exists());
     tree.remove("kit/hold");
-    assert_eq!(next_line(&mut said), "rt: colourway proved (2 s)\n");
+    assert_eq!(next_line(&mut said), "colourway: proved: colourway\n");
     assert_listed(&with_rest(child, said));
 }
 
@@ -138,8 +138,10 @@ fn a_change_is_checked() {
     assert_checked_after(|tree| tree.write("top/crates.txt", "lower: io\n"));
     assert_checked_after(|tree| tree.write("kit/id", "kit 2\n"));
     // What an earlier run left is gone, whole or in part.
-    assert_checked_after(|tree| tree.remove("top/target/bin/colourway"));
-    assert_checked_after(|tree| fs::remove_dir_all(tree.at("top/target")).expect("a folder"));
+    assert_checked_after(|tree| tree.remove("top/crates/colourway/out/colourway"));
+    assert_checked_after(|tree| {
+        fs::remove_dir_all(tree.at("top/crates/colourway/out")).expect("a folder")
+    });
 }
 
 #[test]
@@ -147,6 +149,9 @@ fn a_file_that_is_no_crate_s_is_not_checked() {
     let tree = Tree::new();
     listed(&tree);
     tree.write("top/README.md", "words\n");
+    assert_eq!(listed(&tree), "");
+    // What rt makes in a crate's folder is none of the crate's text.
+    tree.write("top/crates/lower/out/made", "words\n");
     assert_eq!(listed(&tree), "");
     assert_eq!(tree.checks(), 1);
 }
@@ -205,12 +210,12 @@ fn a_second_run_waits_for_the_first() {
     assert_eq!(tree.checks(), 1);
 }
 
-/// `rt ci` removes target/ at any time; the lock is not in it. What the first proved is gone, and it proves once more.
+/// `rt ci` sets aside out/ at any time; the lock is not in it. What the first proved is gone, and it proves once more.
 #[test]
-fn a_second_run_waits_where_target_was_removed() {
+fn a_second_run_waits_where_out_was_removed() {
     let tree = Tree::new();
     assert_waits(&tree, |tree| {
-        fs::remove_dir_all(tree.at("top/target")).expect("a folder");
+        fs::remove_dir_all(tree.at("top/crates/colourway/out")).expect("a folder");
     });
     assert_eq!(tree.checks(), 2);
 }
@@ -220,7 +225,7 @@ fn a_second_run_waits_where_target_was_removed() {
 fn no_lock_is_held_while_the_program_runs() {
     let tree = Tree::new();
     let mut first = tree.script().spawn().expect("a run");
-    tree.until(|tree| tree.at("top/target/colourway.stamp").exists());
+    tree.until(|tree| tree.at("top/crates/colourway/out/proved-by").exists());
     tree.write("top/crates.txt", "lower: io\n");
     listed(&tree);
     assert_eq!(tree.checks(), 2);
@@ -252,8 +257,7 @@ fn assert_not_proved(tree: &Tree) -> String {
 #[test]
 fn a_verdict_of_the_prover_is_shown_and_not_asked_for_again() {
     let tree = Tree::new();
-    let not_proved =
-        "echo 'fn lower::second: not proved'\necho 'rt: lower NOT PROVED (exit 1, 3 s)'\nexit 1\n";
+    let not_proved = "echo 'fn lower::second: not proved'\necho 'logic=not-proved'\nexit 1\n";
     tree.write("kit/fail", not_proved);
     let said = assert_not_proved(&tree);
     assert!(said.contains("fn lower::second: not proved\n"), "{said}");
@@ -269,12 +273,12 @@ fn a_verdict_of_the_prover_is_shown_and_not_asked_for_again() {
     assert_eq!(tree.checks(), 4);
 }
 
-/// As where an `rt` that is run by hand takes a library away to put a new one there: rt then ends with 2, or with 1 and
-/// no verdict.
+/// As where memory runs out, or an `rt` that is run by hand takes a library away: rt then ends with 2, or with 1 and no
+/// verdict.
 #[test]
 fn a_check_without_a_verdict_is_tried_again() {
     for fail in [
-        "echo 'rattle: cannot read a file'\necho 'rt: lower NOT PROVED (exit 2, 0 s)'\nexit 2",
+        "echo 'rattle: cannot read a file'\necho 'rt: the library lower did not build, so nothing above it was checked'\nexit 2",
         "echo 'rt: FAILED: lower'\nexit 1",
     ] {
         let tree = Tree::new();
@@ -284,7 +288,7 @@ fn a_check_without_a_verdict_is_tried_again() {
         // Not without an end.
         let tree = Tree::new();
         tree.write("kit/fail", &format!("{fail}\n"));
-        assert!(assert_not_proved(&tree).contains("remove the folder target/"));
+        assert!(assert_not_proved(&tree).contains("remove the folders crates/*/out"));
         assert_eq!(tree.checks(), 3);
     }
 }

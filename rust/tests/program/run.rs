@@ -17,10 +17,10 @@ pub fn at_top(name: &str) -> PathBuf {
 
 /// The program, its input and output in pipes.
 pub fn program() -> Command {
-    let path = at_top("target/bin/colourway");
+    let path = at_top("crates/colourway/out/colourway");
     assert!(
         path.is_file(),
-        "There is no {}. Run `rt check colourway` at the repository's top first: it proves and compiles the program.",
+        "There is no {}. Run `./colourway < drafts/first.in` at the repository's top first: it proves and compiles the program.",
         path.display()
     );
     piped(Command::new(path))

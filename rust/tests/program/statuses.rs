@@ -46,7 +46,7 @@ fn a_listing_is_0_and_a_refusal_1() {
     }
 }
 
-/// The program does not see that a write failed: an output without its last line is not printed as if it were one.
+/// An output without its last line is not printed as if it were one, whether the program says that a write failed or not.
 #[test]
 fn an_output_that_is_cut_short_is_4() {
     let tree = proved();
@@ -68,6 +68,15 @@ fn an_output_that_is_cut_short_is_4() {
             run.said
         );
     }
+    let tree = Tree::new();
+    let failing = "#!/bin/sh\nprintf '5 0'\necho 'Error: no room' >&2\nexit 1\n";
+    tree.write("kit/program", failing);
+    let run = on(&tree, b"");
+    assert_eq!(run.status.code(), Some(4), "{}", run.said);
+    assert_eq!(run.output, b"");
+    assert!(run
+        .said
+        .contains("Error: no room\ncolourway: the output is cut short"));
 }
 
 #[test]

@@ -1,4 +1,4 @@
-//! A repository of one crate in a temporary folder, with the script `colourway` as it stands and an `rt` that proves
+//! A repository of two crates in a temporary folder, with the script `colourway` as it stands and an `rt` that proves
 //! nothing. That `rt` counts its checks, fails where two overlap, and leaves a program that prints its input, so that a
 //! test chooses the output.
 
@@ -17,19 +17,24 @@ const RT: &str = r#"#!/bin/sh
 kit=$(dirname "$0")
 case $* in
 version) cat "$kit/id" ;;
-'check colourway')
+run)
     echo check >>"$kit/calls"
     mkdir "$kit/busy" || { echo overlap >>"$kit/overlaps"; exit 2; }
     trap 'rmdir "$kit/busy"' EXIT
+    [ "${PWD##*/crates/}" = colourway ] || exit 2
     echo 'fn lower::first: proved'
-    echo 'rt: lower proved (1 s)'
+    echo 'crate lower: modules loaded=0 checked=3'
+    echo 'logic=proved functions=1 statements=trusted'
     sleep 0.1
     turns=0
     while [ -e "$kit/hold" ] && [ $turns -lt 2000 ]; do sleep 0.01; turns=$((turns + 1)); done
     [ ! -e "$kit/fail" ] || . "$kit/fail"
-    mkdir -p target/bin && cp "$kit/program" target/bin/colourway && chmod +x target/bin/colourway
-    echo 'rt: same proved (unchanged since it was last proved)'
-    echo 'rt: colourway proved (2 s)'
+    mkdir -p out && cp "$kit/program" out/colourway && chmod +x out/colourway
+    echo 'library same: modules loaded=7 checked=0'
+    echo 'crate colourway: modules loaded=0 checked=2'
+    echo 'logic=proved functions=2 statements=trusted'
+    echo 'rt: running out/colourway; to give it other input, run that file yourself'
+    echo 'refused 1'
     ;;
 *) exit 2 ;;
 esac
@@ -63,11 +68,16 @@ impl Tree {
         let tree = Tree {
             folder: std::env::temp_dir().join(name),
         };
-        for folder in ["top/crates/lower/src", "kit", "room"] {
+        for folder in [
+            "top/crates/lower/src",
+            "top/crates/colourway",
+            "kit",
+            "room",
+        ] {
             fs::create_dir_all(tree.at(folder)).expect("a folder");
         }
         install(at_top("colourway"), tree.at("top/colourway"));
-        tree.write("top/crates.txt", "lower:\n");
+        tree.write("top/crates.txt", "lower:\ncolourway: lower\n");
         tree.write("top/crates/lower/src/lib.rt", "\n");
         tree.write("kit/id", "kit 1\n");
         tree.write("kit/rt.text", RT);

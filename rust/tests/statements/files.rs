@@ -58,7 +58,7 @@ fn declared_by(line: &str) -> Option<&str> {
         .skip_while(|word| marks.contains(word));
     let name = words.next()?;
     let behind = words.next()?;
-    let is_name = name.starts_with(|c: char| c.is_alphabetic() || c == '_');
+    let is_name = name.starts_with(|c: char| c.is_alphabetic() || c == '_' || c == '◌');
     let is_declared = behind == ":" || behind.starts_with(['(', '{']);
     (is_name && is_declared).then_some(name)
 }
@@ -129,20 +129,24 @@ pub fn tests() -> BTreeSet<String> {
 #[test]
 fn declarations_are_read() {
     assert_eq!(
-        declared_by("abbrev pub reasonNumber : Reason → ℕ"),
-        Some("reasonNumber")
+        declared_by("abbrev pub number_of_reason : Reason → ℕ"),
+        Some("number_of_reason")
     );
     assert_eq!(
         declared_by("pub record Shows (q : Question) : Type 0 where"),
         Some("Shows")
     );
     assert_eq!(
-        declared_by("      pub flag-iff : (row column : ℕ)"),
-        Some("flag-iff")
+        declared_by("      pub flag_iff : (row column : ℕ)"),
+        Some("flag_iff")
+    );
+    assert_eq!(
+        declared_by("unfoldable pub ◌then◌ : Said → Said → Said"),
+        Some("◌then◌")
     );
     assert_eq!(declared_by("      go : (a : Answer)"), None);
     assert_eq!(declared_by("-- a comment : of this"), None);
-    assert_eq!(declared_by("reasonNumber SideRange = 2"), None);
+    assert_eq!(declared_by("number_of_reason SideRange = 2"), None);
     assert_eq!(declared_in_code("pub fn search("), ["search"]);
     assert_eq!(declared_in_code("    Plain(Reason),"), ["Plain"]);
 }
@@ -150,7 +154,7 @@ fn declarations_are_read() {
 #[test]
 fn files_are_read() {
     let declared = declared();
-    for name in ["searchOf", "Said", "search", "WindowView"] {
+    for name in ["search_of", "Said", "search", "WindowView"] {
         assert!(
             declared.contains_key(name),
             "{name} is not found among the declarations"
