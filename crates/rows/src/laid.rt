@@ -1,6 +1,6 @@
 // What rows.rt does, of a pattern as it lies (crates/placed). One function for both would be enough, and was: but then
 // the compiler no longer made the comparison a part of its callers' loops, and the search took up to 1.7 times as long.
-// The laws are the same, and so are the proofs.
+// The laws are the same; here the cells that show one cell of the pattern are passed together.
 ghost use Rattle.std.specs.Prelude.{◌≡◌, ℕ, ◌+◌, ◌-◌, ◌≤◌, ◌<◌, length};
 ghost use Rattle.placed.specs.Placing.{placed};
 ghost use Rattle.prefixes.specs.State.{agrees_test, earlier_distance};

@@ -26,19 +26,19 @@ front old xs = take-append_seam xs _
 -- what is written at the start is what the buffer begins with
 written_front : (old new xs : List ℕ) (n : ℕ) → length xs ≤ length old → n ≡ 0 + length xs → new ≡ written old 0 xs
     → Begins n new xs
-written_front old new xs n room n_is New-is =
+written_front old new xs n room n_is new_is =
     let e : n ≡ length xs = omega arith in
     record {
-      inside = omega (arith, room, ap length New-is, length-written old 0 xs (omega arith));
-      first = rw (e, New-is) (front old xs);
+      inside = omega (arith, room, ap length new_is, length-written old 0 xs (omega arith));
+      first = rw (e, new_is) (front old xs);
     }
 
 -- a refusal's line, where the number written is the refusal's
 pub refusal_front : (old new : List ℕ) (number why n : ℕ) → 12 ≤ length old → number ≡ why
     → n ≡ 0 + length (refusal_line number) → new ≡ written old 0 (refusal_line number)
     → Begins n new (refusal_line why)
-refusal_front old new number why n room e n_is New-is =
-    rw (← e) (written_front old new (refusal_line number) n (omega (arith, refusal_length number)) n_is New-is)
+refusal_front old new number why n room e n_is new_is =
+    rw (← e) (written_front old new (refusal_line number) n (omega (arith, refusal_length number)) n_is new_is)
 
 -- a listing's lines
 pub lines_front : (listing old new : List ℕ) (n : ℕ) → Recorded listing → 4 * length listing ≤ length old
