@@ -4,8 +4,8 @@
  *     (cd crates/exports && rt lib)
  *     cc -Iinclude program.c crates/exports/out/libexports.a
  *
- * The first proves the library and writes it. It needs memcpy and memset of the C library, which cc links by itself,
- * and nothing else.
+ * The first proves the library and writes it. It needs memcpy, memmove and memset of the C library, which cc links by
+ * itself, and nothing else.
  *
  * Terms, with document 01's words in brackets. A text (sheet) is rows by columns symbols (yarn numbers), one byte each,
  * row by row. A pattern (motif) is height by width symbols, laid out likewise. A window is the height by width part of
