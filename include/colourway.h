@@ -4,8 +4,8 @@
  *     (cd crates/exports && rt lib)
  *     cc -Iinclude program.c crates/exports/out/libexports.a
  *
- * The first proves the library and writes it. It needs memcpy and memset of the C library, which cc links by itself,
- * and nothing else.
+ * The first proves the library and writes it. It needs memcpy, memmove and memset of the C library, which cc links by
+ * itself, and nothing else.
  *
  * Terms, with document 01's words in brackets. A text (sheet) is rows by columns symbols (yarn numbers), one byte each,
  * row by row. A pattern (motif) is height by width symbols, laid out likewise. A window is the height by width part of
@@ -33,20 +33,20 @@
  *     colourway_search_scales                                 25 KiB
  *     colourway_check                                         15 KiB
  *     colourway_one_window                                     7 KiB
- *     colourway_bijection_compose                              6 KiB
+ *     colourway_bijection_compose                              8 KiB
  *     colourway_bijection_pair                                 4 KiB
  *     colourway_bijection_invert                               3 KiB
  *     colourway_distinct_counts                                2 KiB
  *     colourway_strip_links                                    1 KiB
- *     all others                                             256 bytes
+ *     all others                                             512 bytes
  *
  * Search, count and list take about that much whatever the size of their text, list also where it refuses by 16 or 11.
- * The figures are measured and not proved: the lowest byte touched of a painted stack, rounded up. Those of search,
- * count, list, check and one_window are from texts of 255 by 255 of six kinds and patterns with sides 1, 2, 64 and 255,
- * of search, count and list also refused by 2, and of list by 16 and 11; the others from texts and patterns from 1 by 1
- * to 255 by 255 and from refused calls. A test runs every operation in a thread of 64 KiB. What memcpy and memset take
- * is in them, but not the 4 KiB that the dynamic linker takes once, at the first call of either, in a program that
- * binds lazily (-Wl,-z,now spares them).
+ * The figures are measured and not proved: the lowest byte touched of a painted stack, rounded up, with the library as
+ * the kit named in README.md compiles it. They are from texts of 255 by 255 of eight kinds and patterns with sides from
+ * 1 to 255, accepted and refused by 2, of search, list and the searches at scales also by 11, of list by 16; those of
+ * bijections from empty, full and damaged columns. A test runs every operation in a thread of 64 KiB. What memcpy,
+ * memmove and memset take is in them, but not the 4 KiB that the dynamic linker takes once, at the first call of each,
+ * in a program that binds lazily (-Wl,-z,now spares them).
  *
  * The first draft of document 01, in full:
  *

@@ -113,12 +113,12 @@
 //! | [`search_scales`] | 25 KiB |
 //! | [`check`] | 15 KiB |
 //! | [`one_window`] | 7 KiB |
-//! | [`Bijection::compose`] | 6 KiB |
+//! | [`Bijection::compose`] | 8 KiB |
 //! | [`Bijection::pair`] | 4 KiB |
 //! | [`Bijection::invert`] | 3 KiB |
 //! | [`distinct_counts`] | 2 KiB |
 //! | [`strip_links`] | 1 KiB |
-//! | all others | 256 bytes |
+//! | all others | 512 bytes |
 //!
 //! The first three take about that much whatever the size of their text, [`list`] also where it refuses by 16 or 11.
 //! A wrapper adds its own locals, of which a [`Bijection`], 1 KiB, is the largest. The figures are measured and not
