@@ -123,30 +123,6 @@ module _ (q : Question) (listing : List ℕ) (found refused : ℕ)
         go rs e (as_refused side i j inside d) =
             absurd ((no_mismatch_iff _ _ (positions q)).1 ((shows.found_iff row column corner).0 once) side i j inside d)
 
-    -- its records have 3 + 3d bytes, those of a refused one 7
-    length_shown : length (bytes_all (demand.0 row column))
-        ≡ pick (ltb 0 (times_found records row column)) (3 + 3 * distinct q.pattern.cells) 7
-    length_shown = go (demand.0 row column) (shows.each_shown row column corner)
-      where
-        go : (rs : List Record) → Shown q row column rs
-            → length (bytes_all rs) ≡ pick (ltb 0 (times_found records row column)) (3 + 3 * distinct q.pattern.cells)
-            7
-        go rs (as_found symbols image right many) =
-            let once = (shows.found_iff row column corner).1 (image, right.maps) in
-            ap (λ (xs : List Record). length (bytes_all xs))
-            (sym (entry_found row column q.pattern.columns symbols image))
-            ∙ length_found row column q.pattern.columns symbols image
-            ∙ ap (λ (d : ℕ). 3 + 3 * d) many
-            ∙ sym (pick_true _ _ (lt-ltb 0 (times_found records row column) (omega arith)))
-        go rs (as_refused side i j inside d) =
-            let once = (shows.refused_iff row column corner).1
-            (λ f. (no_mismatch_iff _ _ (positions q)).1 f side i j inside d) in
-            ap (λ (xs : List Record). length (bytes_all xs))
-            (sym (entry_refused row column q.pattern.columns [] (λ a. a) side i j))
-            ∙ length_refused row column q.pattern.columns [] (λ a. a) side i j
-            ∙ sym (pick_false _ _ (le-ltb 0 (times_found records row column)
-            (omega (arith, shows.just_once row column corner))))
-
   -- the listing has a × (3 + 3d) + 7b + 5 bytes
   pub listing_length_lem : length listing ≡ listing_length found refused (distinct q.pattern.cells)
   unfolding records_of
@@ -161,6 +137,30 @@ module _ (q : Question) (listing : List ℕ) (found refused : ℕ)
         ← refused_same,
       )
     where
+      -- the records of a found window have 3 + 3d bytes, those of a refused one 7
+      length_shown : (row column : ℕ) → CornerIn q row column → length (bytes_all (demand.0 row column))
+          ≡ pick (ltb 0 (times_found records row column)) (3 + 3 * distinct q.pattern.cells) 7
+      length_shown row column corner = go (demand.0 row column) (shows.each_shown row column corner)
+        where
+          go : (rs : List Record) → Shown q row column rs
+              → length (bytes_all rs) ≡ pick (ltb 0 (times_found records row column)) (3 + 3 * distinct q.pattern.cells)
+              7
+          go rs (as_found symbols image right many) =
+              let once = (shows.found_iff row column corner).1 (image, right.maps) in
+              ap (λ (xs : List Record). length (bytes_all xs))
+              (sym (entry_found row column q.pattern.columns symbols image))
+              ∙ length_found row column q.pattern.columns symbols image
+              ∙ ap (λ (d : ℕ). 3 + 3 * d) many
+              ∙ sym (pick_true _ _ (lt-ltb 0 (times_found records row column) (omega arith)))
+          go rs (as_refused side i j inside d) =
+              let once = (shows.refused_iff row column corner).1
+              (λ f. (no_mismatch_iff _ _ (positions q)).1 f side i j inside d) in
+              ap (λ (xs : List Record). length (bytes_all xs))
+              (sym (entry_refused row column q.pattern.columns [] (λ a. a) side i j))
+              ∙ length_refused row column q.pattern.columns [] (λ a. a) side i j
+              ∙ sym (pick_false _ _ (le-ltb 0 (times_found records row column)
+              (omega (arith, shows.just_once row column corner))))
+
       entries : ℕ → List Record
       entries k = demand.0 (corner_row (across_of q) k) (corner_column (across_of q) k)
 

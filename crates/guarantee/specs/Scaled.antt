@@ -25,7 +25,7 @@ use Rattle.scaled.specs.Scaled.Listings.{scaled-length}
 use Rattle.scaled.specs.Theorems.{scaled-part, every_listed_lem, every_part}
 use Rattle.scaled.specs.declared.answer.Summed.TheVariants as Sums
 use Rattle.rules.specs.Check.{checked_said, check_of}
-use Rattle.rules.specs.Theorems.{accepts_all}
+use Rattle.rules.proofs.Theorems.{accepts_all}
 use Rattle.rules.specs.declared.checked.Checked.{Checked}
 use Rattle.rules.specs.declared.checked.Checked.TheVariants.{Kept}
 use Rattle.guarantee.specs.Demand3.{times_found, records_of, Shows, ListsAnswers}

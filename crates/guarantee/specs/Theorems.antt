@@ -25,7 +25,7 @@ use Rattle.searched.specs.Theorems.{lists_answer}
 use Rattle.searched.specs.declared.answer.Searched.TheVariants.{Listed}
 use Rattle.rules.specs.Check.{checked_said, check_of}
 use Rattle.rules.specs.Rules.{TrueOf, Entries, records_to, Keeps}
-use Rattle.rules.specs.Theorems.{accepts_all, accepts_only}
+use Rattle.rules.proofs.Theorems.{accepts_all, accepts_only}
 use Rattle.rules.specs.declared.checked.Checked.{Checked}
 use Rattle.rules.specs.declared.checked.Checked.TheVariants.{Kept}
 use Rattle.guarantee.specs.Demand3.{times_found, records_of, Shows, ListsAnswers, OfTheCheck, OfTheSearch}

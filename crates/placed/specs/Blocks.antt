@@ -1,6 +1,5 @@
 -- From block to block of a pattern as it lies: what a block shows, how far it goes, and what follows it in its row.
 -- Assumes nothing.
-pub mod Laws
 use Rattle.std.specs.Prelude.{◌≡◌, List, ℕ, ◌+◌, ◌*◌, ◌≤◌, ◌<◌, length, get_or}
 use Rattle.placed.specs.Placing.{placed}
 use Rattle.placed.specs.declared.blocks.Block.{Block}

@@ -14,7 +14,7 @@ use Rattle.searched.specs.Theorems.{search_zero}
 use Rattle.searched.specs.Parts.{listing_zero}
 use Rattle.searched.specs.declared.answer.Searched.TheVariants.{Listed}
 use Rattle.rules.specs.Check.{check_of}
-use Rattle.rules.specs.Theorems.{check_zero}
+use Rattle.rules.proofs.Theorems.{check_zero}
 use Rattle.guarantee.specs.Demand3.{Demand3, Shows, ListsAnswers}
 use Rattle.listing.specs.declared.records.Record.{Record}
 use Rattle.guarantee.specs.Theorems.{demand_3}

@@ -1,4 +1,3 @@
 pub mod Check
 pub mod Rules
 pub mod Entries
-pub mod Theorems

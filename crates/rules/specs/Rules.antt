@@ -3,8 +3,6 @@
 -- Assumes nothing.
 pub mod Pairs
 pub mod Mismatches
-pub mod Entry
-pub mod Windows
 pub mod Bytes
 use Rattle.std.specs.Prelude.{◌≡◌, not, List, [], ◌∷◌, ◌++◌, ℕ, ◌<◌}
 use Rattle.theory.specs.Join.{joined}

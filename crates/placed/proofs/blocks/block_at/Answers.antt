@@ -7,7 +7,7 @@ use native.Mathlib.Omega.{arith}
 use borrow.Author.Tests.{eq-eqb, ne_eqb}
 use Rattle.theory.specs.Test.Laws.{pick_true}
 use Rattle.placed.specs.Placing.Laws.{Enlarged, placed_known, quotient_small, inverse_le, block_is, row_is, wide_le}
-use Rattle.placed.specs.Blocks.Laws.{block_plain, block_of, end_near, row_near}
+use Rattle.placed.proofs.BlockLaws.{block_plain, block_of, end_near, row_near}
 use Rattle.placed.proofs.blocks.block_at.Goals as goal
 use Rattle.placed.proofs.blocks.block_at.Goals.{After-quotient, After-quotient-2, Else-g-eq1}
 

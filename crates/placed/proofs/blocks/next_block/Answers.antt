@@ -3,7 +3,7 @@
 use Prim.Native.Nat.{◌+◌}
 use native.Mathlib.Omega.{arith}
 use Rattle.placed.specs.Blocks.{BlockAt}
-use Rattle.placed.specs.Blocks.Laws.{block_next}
+use Rattle.placed.proofs.BlockLaws.{block_next}
 use Rattle.placed.proofs.blocks.next_block.Goals as goal
 use Rattle.placed.proofs.blocks.next_block.Goals.{Then-b}
 

@@ -9,7 +9,7 @@ use Prim.Native.Nat.{ℕ, ◌+◌, ◌-◌, ◌<◌}
 use lib.ListN.{get_or, set}
 use Rattle.placed.specs.Placing.{placed}
 use Rattle.placed.specs.Blocks.{AlikeTo, BlockAt}
-use Rattle.placed.specs.Blocks.Laws.{onward_none}
+use Rattle.placed.proofs.BlockLaws.{onward_none}
 use Rattle.rows.specs.Rows.{PassedPart}
 use Rattle.rows.specs.Rows.Laws.{part_none, part_more, part_found, part_all, run_passed, run_found}
 use Rattle.rows.proofs.laid.laid_part_end.Goals as goal

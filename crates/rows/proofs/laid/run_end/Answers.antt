@@ -4,7 +4,7 @@ use mathlib.Core.Path.{sym}
 use native.Mathlib.Omega.{arith}
 use Prim.Native.Nat.{◌<◌}
 use lib.ListN.{length}
-use Rattle.placed.specs.Blocks.Laws.{alike_self}
+use Rattle.placed.proofs.BlockLaws.{alike_self}
 use Rattle.rows.specs.Rows.Laws.{alike_further}
 use Rattle.rows.proofs.laid.run_end.Goals as goal
 use Rattle.rows.proofs.laid.run_end.Goals.{In-loop-i}

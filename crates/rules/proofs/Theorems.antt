@@ -29,8 +29,8 @@ use Rattle.claims.specs.declared.walks.Walk.{Walk}
 use Rattle.claims.specs.declared.walks.Walk.TheVariants.{Goes, Stops}
 use Rattle.rules.specs.Rules.Bytes.{Holds, holds_all, holds_both, holds_first, holds_second, holds_whole}
 use Rattle.rules.specs.Rules.{Entries, records_to, Keeps, KeepsRules}
-use Rattle.rules.specs.Rules.Windows.{onward_goes, closing_sound, closing_complete, entries_read, bytes_to}
-use Rattle.rules.specs.Rules.Windows.{windows_sound, windows_complete, kinds_complete}
+use Rattle.rules.proofs.Windows.{onward_goes, closing_sound, closing_complete, entries_read, bytes_to}
+use Rattle.rules.proofs.Windows.{windows_sound, windows_complete, kinds_complete}
 use Rattle.rules.specs.declared.checked.Checked.{Checked}
 use Rattle.rules.specs.declared.checked.Checked.TheVariants.{Kept, Refused}
 

@@ -33,7 +33,7 @@ use Rattle.rules.specs.Rules.Bytes.{holds_stands, stands_holds}
 use Rattle.rules.specs.Rules.{TrueOf, Entries, records_at, records_to}
 use Rattle.claims.specs.Walks.{goes_not_stops}
 use Rattle.rules.specs.Rules.Pairs.{goes_on, goes_to}
-use Rattle.rules.specs.Rules.Entry.{answer_read, image_read, EntryRight, entry_sound, entry_complete}
+use Rattle.rules.proofs.Entry.{answer_read, image_read, EntryRight, entry_sound, entry_complete}
 
 -- the walk goes on past a part only if that part passed
 pub onward_goes : (c : Walk) (after : ℕ → Walk) (end : ℕ) → onward c after ≡ Goes end
