@@ -79,7 +79,17 @@ fn declared_in_code(line: &str) -> Vec<&str> {
     names
 }
 
-/// All names that `specs/` and `src/` of the crates declare.
+/// The files of laws right in `proofs/` of the crates: those of one function lie in folders of their own.
+fn files_of_laws() -> Vec<PathBuf> {
+    let mut paths = of_every_crate("proofs", ".antt");
+    paths.retain(|path| {
+        path.parent()
+            .is_some_and(|folder| folder.ends_with("proofs"))
+    });
+    paths
+}
+
+/// All names that `specs/`, the files of laws in `proofs/` and `src/` of the crates declare.
 pub fn declared() -> Declared {
     let top = at_top("");
     let mut declared = Declared::new();
@@ -88,7 +98,8 @@ pub fn declared() -> Declared {
         let files = declared.entry(name.to_string()).or_default();
         files.insert(file.to_string_lossy().into_owned());
     };
-    for path in of_every_crate("specs", ".antt") {
+    let specs = of_every_crate("specs", ".antt");
+    for path in specs.into_iter().chain(files_of_laws()) {
         for name in text_of(&path).lines().filter_map(declared_by) {
             add(name, &path);
         }
