@@ -11,6 +11,6 @@ slice_bounds-output-end c =
     (lines_front _ _ _ _ c.requires.0 (omega (arith, c.requires.1, c.lines_room-output.ensures)) c.write_lines-length.ensures).inside
 
 pub slice_bounds-print-end : goal.slice_bounds-print-end
-slice_bounds-print-end c = 
+slice_bounds-print-end c =
     sym (length-take-le _ _
     (lines_front _ _ _ _ c.requires.0 (omega (arith, c.requires.1, c.lines_room-output.ensures)) c.write_lines-length.ensures).inside)

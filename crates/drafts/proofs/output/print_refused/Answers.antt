@@ -15,6 +15,6 @@ slice_bounds-output-end c =
     (refusal_front _ _ _ _ _ (omega (arith, c.refusal_room-output.ensures)) refl c.write_refusal-length.ensures.value c.write_refusal-length.ensures.output_after).inside
 
 pub slice_bounds-print-end : goal.slice_bounds-print-end
-slice_bounds-print-end c = 
+slice_bounds-print-end c =
     sym (length-take-le _ _
     (refusal_front _ _ _ _ _ (omega (arith, c.refusal_room-output.ensures)) refl c.write_refusal-length.ensures.value c.write_refusal-length.ensures.output_after).inside)

@@ -14,7 +14,7 @@ slice_bounds-print_listing-end c =
     listed_inside (ask a.text.now a.rows a.columns a.pattern.now a.height a.width) _ _ _ _ _ _ c.in-Listed.is c.search-answer.ensures.listing_after c.search-answer.ensures.bytes.1
 
 pub slice_bounds-print_listing-end-in-Listed : goal.slice_bounds-print_listing-end-in-Listed
-slice_bounds-print_listing-end-in-Listed c = 
+slice_bounds-print_listing-end-in-Listed c =
     let a = c.args in
     sym (length-take-le _ _
     (listed_inside (ask a.text.now a.rows a.columns a.pattern.now a.height a.width) _ _ _ _ _ _ c.in-Listed.is c.search-answer.ensures.listing_after c.search-answer.ensures.bytes.1))

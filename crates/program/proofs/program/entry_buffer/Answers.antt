@@ -7,4 +7,4 @@ use Prim.Native.Nat.{ℕ}
 use Rattle.program.proofs.program.entry_buffer.Goals as goal
 
 pub returns : goal.returns
-returns c = sym (length-replicate {A = ℕ} 16384 0)
+returns c = sym (length-replicate {A = ℕ} _ 0)
