@@ -10,8 +10,8 @@ ghost use Rattle.shapes.specs.Shapes.{ShapeOf, across, down};
 ghost use Rattle.counts.specs.Counts.{counts_said, counts_of, strip_cells, count_in};
 
 use occurrences::occurrences::{add_row, clear_occurrences, replace_row};
-use refusals::refusals::{Outcome, Reason, Refusal};
-use shapes::shapes::{Shape, text_outcome};
+use refusals::refusals::{Reason, Refusal};
+use shapes::shapes::Shape;
 
 // The part of row top that lies in the strip at column left.
 fn strip_row(text: &[u8], s: Shape, top: usize, left: usize) -> &[u8]
@@ -110,24 +110,16 @@ fn all_counts(text: &[u8], s: Shape, counts: &mut [u16])
 }
 
 // By what the question is refused: room is the length of the counts buffer.
-fn counts_outcome(text: &[u8], s: Shape, room: usize) -> Outcome
+#[tactic(auto, unfolding(crate::specs::Counts::counts_said))]
+fn counts_outcome(text: &[u8], s: Shape, room: usize) -> Result<(), Refusal>
     ensures { outcome_said result ≡ counts_said text.now s room }
 {
-    let rows = s.rows;
-    let columns = s.columns;
-    let height = s.height;
-    let width = s.width;
-    let outcome = text_outcome(text, s);
-    let Outcome::Accepted = outcome else {
-        return outcome;
-    };
-    if room < (rows + 1 - height) * (columns + 1 - width) {
-        return Outcome::Refused(Refusal::Plain(Reason::WindowBufferShort));
-    }
-    Outcome::Accepted
+    s.text_outcome(text)?;
+    Reason::WindowBufferShort.unless(s.windows() <= room)
 }
 
 // Writes the number of different symbols in each window of that size, row by row of corners.
+#[tactic(auto, unfolding(crate::specs::Counts::counts_of))]
 pub fn distinct_counts(
     text: &[u8],
     rows: usize,
@@ -135,7 +127,7 @@ pub fn distinct_counts(
     height: usize,
     width: usize,
     counts: &mut [u16],
-) -> Outcome
+) -> Result<(), Refusal>
     ensures { filled result counts.new
         ≡ counts_of text.now (four_sides rows columns height width) counts.old }
 {
@@ -145,10 +137,7 @@ pub fn distinct_counts(
         height,
         width,
     };
-    let outcome = counts_outcome(text, s, counts.len());
-    let Outcome::Accepted = outcome else {
-        return outcome;
-    };
+    counts_outcome(text, s, counts.len())?;
     all_counts(text, s, counts);
-    Outcome::Accepted
+    Ok(())
 }

@@ -1,9 +1,9 @@
--- `bijections::columns_agree` meets its contract: columns agree exactly if each leads back from the other.
+-- `Bijection::columns_agree` meets its contract: columns agree exactly if each leads back from the other.
 -- Assumes nothing.
-use mathlib.Core.Path.{sym, ◌∙◌}
+use Rattle.std.proofs.Common.{sym, ◌∙◌}
 use Rattle.theory.specs.Columns.Agreement.{agree_second_way, agree_neither_way}
 use Rattle.mapping.specs.Bijections.{good_columns}
-use Rattle.mapping.proofs.bijections.columns_agree.Goals as goal
+use Rattle.mapping.proofs.bijections.Bijection.columns_agree.Goals as goal
 
 pub returns-then-leads_back : goal.returns-then-leads_back
 unfolding good_columns
@@ -12,4 +12,5 @@ returns-then-leads_back c =
 
 pub returns-else-leads_back : goal.returns-else-leads_back
 unfolding good_columns
-returns-else-leads_back c = sym (agree_neither_way _ _ (sym c.leads_back.ensures ∙ c.if-leads_back.false))
+returns-else-leads_back c =
+    c.if-leads_back.false ∙ sym (agree_neither_way _ _ (sym c.leads_back.ensures ∙ c.if-leads_back.false))
