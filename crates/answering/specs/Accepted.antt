@@ -1,20 +1,17 @@
 -- The question's refusals in their order, and what one that is not refused has: the window lies in the text.
 -- Assumes nothing.
-use Rattle.std.specs.Prelude.{◌≡◌, true, false, ◌↔◌, ℕ, ◌*◌, length}
+use Rattle.std.specs.Prelude.{◌≡◌, true, ◌↔◌, ℕ, ◌*◌, length}
 use Rattle.std.proofs.Math.Path.{refl}
 use Rattle.std.proofs.Common.{sym, mul-le-mul_right, arith}
 use mathlib.Core.List.{List, []}
 use Rattle.theory.specs.Test.Laws.{says_true, is_true}
 use Rattle.theory.specs.Match.{Answer, matched, mismatched}
-use Rattle.refusals.specs.Said.{accepts, refuses, check, outcome_said, said_values}
-use Rattle.refusals.specs.Said.Laws.{then_stopped, then_both, check_true}
+use Rattle.refusals.specs.Said.{accepts, check, said_values}
+use Rattle.refusals.specs.Said.Laws.{then_both, check_true}
 use Rattle.shapes.specs.Questions.{Question, shape_said, Posed}
 use Rattle.shapes.specs.Questions.Laws.{posed, posed_said}
 use Rattle.shapes.specs.Shapes.{corner_inside_test}
 use Rattle.shapes.specs.Shapes.Laws.{corner_inside_lem, product_le}
-use Rattle.refusals.specs.declared.refusals.Refusal.{Refusal}
-use Rattle.refusals.specs.declared.refusals.Outcome.{Outcome}
-use Rattle.refusals.specs.declared.refusals.Outcome.TheVariants.{Refused}
 use Rattle.cells.specs.declared.windows.WindowPlace.{WindowPlace}
 use Rattle.matching.specs.Compare.{CornerIn, verdict_said, verdict_of, answer_in, place_said, window_said, Placed}
 
@@ -30,18 +27,7 @@ place_of q row column =
     }
 
 module _ (q : Question) (row column : ℕ) where
-  -- each number where its test fails and the earlier ones pass
-  pub place_stopped : (o : Outcome) (why : Refusal) → o ≡ Refused why → outcome_said o ≡ shape_said q
-      → outcome_said o ≡ place_said q row column
-  unfolding place_said
-  place_stopped o why e d = then_stopped o why (shape_said q) _ e d
-
   module _ (shape : shape_said q ≡ accepts []) where
-    pub place_refused : corner_inside_test q.text.rows q.text.columns q.pattern.rows q.pattern.columns row
-        column ≡ false → refuses 5 [] ≡ place_said q row column
-    unfolding place_said
-    place_refused e = rw (shape, e)
-
     pub place_accepted : corner_inside_test q.text.rows q.text.columns q.pattern.rows q.pattern.columns row
         column ≡ true → accepts [] ≡ place_said q row column
     unfolding place_said

@@ -9,11 +9,11 @@ ghost use Rattle.matching.specs.Compare.{bijection_of, place_said, told, one_win
 
 use cells::windows::WindowPlace;
 use columns::columns::{match_columns, no_images};
-use mapping::bijections::{Bijection, empty};
+use mapping::bijections::Bijection;
 use matching::compare::{Verdict, WindowAnswer, first_end, mismatch_between};
-use refusals::refusals::{Outcome, Reason, Refusal};
+use refusals::refusals::{Reason, Refusal};
 use rows::places::{first_places, no_positions};
-use shapes::shapes::{Shape, corner_inside, question_outcome};
+use shapes::shapes::Shape;
 
 // The pattern compared with the window of its size.
 fn compare(text: &[u8], v: WindowPlace, pattern: &[u8]) -> WindowAnswer
@@ -29,42 +29,35 @@ fn compare(text: &[u8], v: WindowPlace, pattern: &[u8]) -> WindowAnswer
     first_places(pattern, &mut first);
     let end = first_end(text, v, pattern, &first, &mut last);
     if end.place < n {
+        let bijection = Bijection::empty();
         let verdict = mismatch_between(pattern, end.earlier, end.place);
-        let none = empty();
-        return WindowAnswer {
-            verdict,
-            bijection: none,
-        };
+        return WindowAnswer { verdict, bijection };
     }
     let mut f = no_images();
     let mut g = no_images();
     match_columns(text, v, pattern, &first, &mut f, &mut g);
-    let b = Bijection {
-        forward: f,
-        backward: g,
-    };
     WindowAnswer {
         verdict: Verdict::Match,
-        bijection: b,
+        bijection: Bijection {
+            forward: f,
+            backward: g,
+        },
     }
 }
 
 // By what the question is refused.
-fn window_outcome(text: &[u8], pattern: &[u8], s: Shape, row: usize, column: usize) -> Outcome
+#[tactic(auto, unfolding(matching::specs::Compare::place_said))]
+fn window_outcome(
+    text: &[u8],
+    pattern: &[u8],
+    s: Shape,
+    row: usize,
+    column: usize,
+) -> Result<(), Refusal>
     ensures { outcome_said result ≡ place_said (asked text.now pattern.now s) row column }
 {
-    let rows = s.rows;
-    let columns = s.columns;
-    let height = s.height;
-    let width = s.width;
-    let outcome = question_outcome(text, pattern, s);
-    let Outcome::Accepted = outcome else {
-        return outcome;
-    };
-    if !corner_inside(rows, columns, height, width, row, column) {
-        return Outcome::Refused(Refusal::Plain(Reason::CornerOutside));
-    }
-    Outcome::Accepted
+    s.question_outcome(text, pattern)?;
+    Reason::CornerOutside.unless(s.corner_inside(row, column))
 }
 
 // Whether the pattern matches the window of its size at that corner of a text. That text and pattern are bytes, which
@@ -88,16 +81,12 @@ pub fn one_window(
         height,
         width,
     };
-    let outcome = window_outcome(text, pattern, s, row, column);
-    match outcome {
-        Outcome::Refused(why) => {
-            let none = empty();
-            WindowAnswer {
-                verdict: Verdict::Refused(why),
-                bijection: none,
-            }
-        }
-        Outcome::Accepted => {
+    match window_outcome(text, pattern, s, row, column) {
+        Err(why) => WindowAnswer {
+            verdict: Verdict::Refused(why),
+            bijection: Bijection::empty(),
+        },
+        Ok(()) => {
             let v = WindowPlace {
                 columns,
                 row,

@@ -1,7 +1,7 @@
 // Document 01's conditions 2, 3, 4 and 5 on sides, cells and corners: every operation asks them in this order.
 ghost use Rattle.std.specs.Prelude.{◌≡◌, ◌+◌, ◌*◌, ◌≤◌, leb};
 ghost use Rattle.shapes.specs.Shapes.{good_side_test, good_sides_test, good_cells_test, fits, corner_inside_test};
-ghost use Rattle.shapes.specs.Shapes.{across, down, Sized};
+ghost use Rattle.shapes.specs.Shapes.{across, down};
 ghost use Rattle.refusals.specs.Said.{outcome_said, ◌then◌};
 ghost use Rattle.shapes.specs.Questions.{grid_of, asked, sides_said, grid_said, cells_said, size_said, shape_said};
 ghost use Rattle.shapes.specs.Questions.{text_said};
@@ -97,7 +97,7 @@ impl Shape {
 
     // And in all.
     pub fn windows(self) -> usize
-        requires { Sized self.rows self.columns self.height self.width }
+        requires { (self.rows ≤ 255) × (self.columns ≤ 255) × (self.height ≤ self.rows) × (self.width ≤ self.columns) }
         ensures { result ≡ down self * across self }
     {
         self.down() * self.across()

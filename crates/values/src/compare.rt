@@ -6,7 +6,6 @@ ghost use Rattle.matching.specs.declared.compare.Verdict.TheVariants.{Mismatch};
 ghost use Rattle.values.specs.Compare.{mismatch_of};
 
 use matching::compare::Verdict;
-use refusals::refusals::refusal_number;
 
 // The number of a verdict.
 pub fn verdict_number(verdict: Verdict) -> u8
@@ -19,7 +18,7 @@ pub fn verdict_number(verdict: Verdict) -> u8
             earlier: _,
             later: _,
         } => 0,
-        Verdict::Refused(why) => refusal_number(why),
+        Verdict::Refused(why) => u8::from(why),
     }
 }
 

@@ -1,7 +1,7 @@
 -- From the first end to the answer: verdict and bijection where a mismatch ends and where none does, and the whole
 -- answer refused and given.
 -- Assumes nothing.
-use Rattle.std.specs.Prelude.{◌≡◌, ℕ, ◌≤◌, ◌<◌, eqb}
+use Rattle.std.specs.Prelude.{Result, Err, ⊤, ◌≡◌, ℕ, ◌≤◌, ◌<◌, eqb}
 use Rattle.std.proofs.Math.Path.{sym, ap, ap₂}
 use Rattle.std.proofs.Common.{◌∙◌, arith, lt-ltb, le-ltb}
 use mathlib.Core.List.{List, []}
@@ -12,8 +12,6 @@ use Rattle.prefixes.specs.Prefixes.{EndIs}
 use Rattle.prefixes.specs.Prefixes.Ends.{inside_earlier, answer_of_lem}
 use Rattle.refusals.specs.Said.{accepts, outcome_said}
 use Rattle.shapes.specs.Questions.{Question}
-use Rattle.refusals.specs.declared.refusals.Outcome.{Outcome}
-use Rattle.refusals.specs.declared.refusals.Outcome.TheVariants.{Refused as RefusedOutcome}
 use Rattle.refusals.specs.declared.refusals.Refusal.{Refusal}
 use Rattle.mapping.specs.Bijections.{empty_bijection}
 use Rattle.matching.specs.Compare.{verdict_of, bijection_of, bijection_at, answer_in, place_said, window_said, told}
@@ -68,7 +66,7 @@ module _ (m w : ℕ → ℕ) (n end earlier : ℕ) (found : EndIs m w n end earl
 -- ---- the whole answer
 
 module _ (q : Question) (row column : ℕ) where
-  pub told_refused : (o : Outcome) (why : Refusal) (b : Bijection) → o ≡ RefusedOutcome why
+  pub told_refused : (o : Result ⊤ Refusal) (why : Refusal) (b : Bijection) → o ≡ Err why
       → outcome_said o ≡ place_said q row column → b ≡ empty_bijection
       → told (record { verdict = Refused why; bijection = b }) ≡ one_window_of q row column
   unfolding one_window_of window_said

@@ -3,6 +3,7 @@
 -- Assumes nothing.
 use Rattle.std.specs.Prelude.{◌≡◌, refl, Bool, true, false, List, [], ℕ, ◌≤◌, ◌<◌, Result, Ok, Err, ⊤}
 use Rattle.std.proofs.Common.{sym, ◌∙◌, ap, arith}
+use Rattle.std.specs.Result.{result_and}
 use Rattle.theory.specs.Test.{both}
 use Rattle.theory.specs.Test.Laws.{true_false}
 use Rattle.refusals.specs.declared.refusals.Refusal.{Refusal}
@@ -10,6 +11,11 @@ use Rattle.refusals.specs.Said.{Said, Filled, filled, filled_by, over_front, ◌
 use Rattle.refusals.specs.Said.{said_number, refuses, accepts}
 
 -- ---- a chain from its front
+
+-- an outcome and another one is a chain
+pub and_said : (a b : Result ⊤ Refusal) → outcome_said (result_and a b) ≡ outcome_said a then outcome_said b
+and_said (Ok x) b = refl
+and_said (Err why) b = refl
 
 -- what refuses stays
 pub then_stopped : (o : Result ⊤ Refusal) (why : Refusal) (a b : Said) → o ≡ Err why → outcome_said o ≡ a

@@ -11,9 +11,6 @@ use Rattle.theory.specs.Test.Laws.{tested_same, tested_iff, le_tested, eq_tested
 use Rattle.theory.specs.Table.{table}
 use Rattle.refusals.specs.Said.{Said, accepts, refuses, ◌then◌, outcome_said}
 use Rattle.refusals.specs.Said.Laws.{then_stopped}
-use Rattle.refusals.specs.declared.refusals.Refusal.{Refusal}
-use Rattle.refusals.specs.declared.refusals.Outcome.{Outcome}
-use Rattle.refusals.specs.declared.refusals.Outcome.TheVariants.{Refused}
 use Rattle.shapes.specs.Shapes.{Sides, windows}
 use Rattle.shapes.specs.Shapes.Laws.{product_le}
 use Rattle.shapes.specs.Questions.{Grid, grid_of, Question, sides_of}
@@ -26,7 +23,7 @@ use Rattle.scaled.specs.Scaled.{enlarged_cells, scaled, FitsAt, scaled_shape_sai
 use Rattle.scaled.specs.Scaled.{every_room_said}
 use Rattle.scaled.specs.Scaled.Fit.{PosedAt, posed_between, largest_some}
 use Rattle.scaled.specs.Scaled.Cells.{enlarged_one}
-use Rattle.scaling.specs.Scaling.{links_said, windows_said}
+use Rattle.rooms.specs.Rooms.{links_said, windows_said}
 
 -- ---- one side
 
@@ -46,52 +43,10 @@ module _ (whole part k : ℕ) where
       (le_tested k (whole / part)))
       (le_tested (k * part) whole)
 
--- ---- 9 and 10 of sides
-
-module _ (s : Shape) (links : ℕ) where
-  pub links_refused : links < s.rows * s.width → refuses 9 [] ≡ links_said s links
-  unfolding links_said
-  links_refused h = rw (lt-leb (s.rows * s.width) links h)
-
-  pub links_accepted : s.rows * s.width ≤ links → accepts [] ≡ links_said s links
-  unfolding links_said
-  links_accepted h = rw (le-leb (s.rows * s.width) links h)
-
-pub windows_few : (s : Shape) → s.rows ≤ 255 → s.columns ≤ 255
-    → windows s.rows s.columns s.height s.width ≤ 65536
-windows_few s r c = product_le _ _ 256 256 (omega (arith, r)) (omega (arith, c))
-
-module _ (s : Shape) (counts flags : ℕ) where
-  abbrev all : ℕ
-  all = windows s.rows s.columns s.height s.width
-
-  pub counts_refused : counts < all → refuses 10 [] ≡ windows_said s counts flags
-  unfolding windows_said
-  counts_refused h = rw (lt-leb all counts h)
-
-  pub flags_refused : all ≤ counts → flags < all → refuses 10 [] ≡ windows_said s counts flags
-  unfolding windows_said
-  flags_refused h l = rw (le-leb all counts h, lt-leb all flags l)
-
-  pub windows_accepted : all ≤ counts → all ≤ flags → accepts [] ≡ windows_said s counts flags
-  unfolding windows_said
-  windows_accepted h l = rw (le-leb all counts h, le-leb all flags l)
-
 -- ---- the chains
 
 module _ (q : Question) (r : Rooms) where
-  -- refused by 2, 3 or 17
-  pub scaled_room_stopped : (k : ℕ) (o : Outcome) (why : Refusal) → o ≡ Refused why
-      → outcome_said o ≡ scaled_shape_said k q → outcome_said o ≡ scaled_room_said k q r
-  unfolding scaled_room_said
-  scaled_room_stopped k o why e d = then_stopped o why (scaled_shape_said k q) _ e d
-
-  pub every_room_stopped : (o : Outcome) (why : Refusal) → o ≡ Refused why
-      → outcome_said o ≡ scaled_shape_said 1 q → outcome_said o ≡ every_room_said q r
-  unfolding every_room_said
-  every_room_stopped o why e d = then_stopped o why (scaled_shape_said 1 q) _ e d
-
-  -- else by 9 and 10 for the enlarged sides
+  -- where 2, 3 and 17 refuse nothing, by 9 and 10 for the enlarged sides
   pub scaled_room_goes : (k : ℕ) (links windows : Said) → scaled_shape_said k q ≡ accepts []
       → links ≡ links_said (sides_of (scaled k q)) r.links
       → windows ≡ windows_said (sides_of (scaled k q)) r.counts r.flags

@@ -26,7 +26,7 @@ returns-then-end-n c =
     let h = c.if-end-n.true in record {
       verdict_value = c.mismatch_between-verdict.ensures ∙ stopped_verdict _ _ _ _ _ e h;
       bijection_value = stopped_bijection _ _ _ _ _ e h _
-          c.empty-none.ensures;
+          c.empty-bijection.ensures;
     }
 
 pub match_columns-requires : goal.match_columns-requires
