@@ -60,8 +60,8 @@ impl<'a> Enlarged<'a> {
 impl<'a> Pattern for Enlarged<'a> {
     ghost cells = { λ e. enlarged e.own.now e.scale e.width e.cells };
 
-    ghost Onward = { λ e b.
-        Follows e.own.now (enlarged e.own.now e.scale e.width e.cells) e.scale b.place b.end b.stop };
+    ghost Onward = { λ e b p.
+        Follows e.own.now (enlarged e.own.now e.scale e.width e.cells) e.scale b.place p b.stop };
 
     #[inline]
     fn len(self) -> usize {
@@ -75,10 +75,10 @@ impl<'a> Pattern for Enlarged<'a> {
     }
 
     #[inline]
-    fn before(self, p: usize) -> Block {
+    fn before(self) -> Block {
         Block {
             symbol: 0,
-            end: p,
+            cells: 0,
             place: 0,
             stop: 0,
         }
@@ -90,7 +90,7 @@ impl<'a> Pattern for Enlarged<'a> {
         let place = self.shown_place(p);
         Block {
             symbol: self.own[place],
-            end: (quotient(p, self.by_scale) + 1) * self.scale,
+            cells: (quotient(p, self.by_scale) + 1) * self.scale - p,
             place,
             stop: (quotient(p, self.by_width) + 1) * (self.scale * self.width),
         }
@@ -103,12 +103,27 @@ impl<'a> Pattern for Enlarged<'a> {
             let place = b.place + 1;
             return Block {
                 symbol: self.own[place],
-                end: p + self.scale,
+                cells: self.scale,
                 place,
                 stop: b.stop,
             };
         }
         self.block_at(p)
+    }
+
+    // Block after block.
+    fn repeats(self, p: usize, most: usize) -> usize {
+        let mut b = self.block_at(p);
+        let symbol = b.symbol;
+        let mut n = b.cells;
+        while n < most {
+            b = self.next_block(b, p + n);
+            if b.symbol != symbol {
+                return n;
+            }
+            n += b.cells;
+        }
+        most
     }
 
     // First places in the pattern become first places in the enlargement: the corner of the cells that show a place comes

@@ -3,7 +3,7 @@
 -- Assumes nothing.
 use Rattle.std.proofs.Common.{◌≡◌, ℕ, ◌+◌, ◌*◌, ◌/◌, ◌≤◌, ◌<◌, ◌∙◌, ap, refl, arith}
 use Rattle.placed.specs.Placing.Laws.{enlarged_long, place_inside, quotient_small, inverse_le, block_is, row_is}
-use Rattle.placed.proofs.BlockLaws.{block_shown_at, block_follows, block_shows, end_near, row_near}
+use Rattle.placed.proofs.BlockLaws.{block_shown_at, block_follows, block_shows, end_over, end_near, row_near}
 use Rattle.placed.proofs.enlarged.EnlargedPattern.block_at.Goals as goal
 use Rattle.placed.proofs.enlarged.EnlargedPattern.block_at.Goals.{After-quotient, After-quotient-2, Start}
 
@@ -60,6 +60,12 @@ overflow_mul-result c =
     let s = (goal.at.overflow_mul-result c).Start in
     let near = end_near c.args.self.own.now c.args.self.sound c.args.self.sides c.args.p (inside s) in
     omega (arith, end_is (goal.at.overflow_mul-result c).After-quotient, near, few s)
+
+pub overflow_sub-result : goal.overflow_sub-result
+overflow_sub-result c =
+    let s = (goal.at.overflow_sub-result c).Start in
+    let over = end_over c.args.self.own.now c.args.self.sound c.args.self.sides c.args.p (inside s) in
+    omega (arith, end_is (goal.at.overflow_sub-result c).After-quotient, over)
 
 pub quotient-requires-2 : goal.quotient-requires-2
 quotient-requires-2 c =
