@@ -1,0 +1,17 @@
+// What a run down a strip hands from window to window.
+
+// Where a run down a strip stands: the last window that was compared begins at row, and agrees up to place reached of the
+// strip.
+#[derive(Clone, Copy)]
+pub struct Run {
+    pub row: usize,
+    pub reached: usize,
+}
+
+// The first end of a window, with the first position that mismatches with it; where no mismatch ends in the window, the
+// number of its positions, with 0.
+#[derive(Clone, Copy)]
+pub struct FirstEnd {
+    pub end: usize,
+    pub earlier: usize,
+}
