@@ -4,6 +4,8 @@ ghost use Rattle.theory.specs.Written.{written};
 ghost use Rattle.listing.specs.Records.{bytes_of, mismatch_bytes, kind_of, kind_byte, size_of_kind, Decodes};
 ghost use Rattle.listing.specs.Entries.{side_alike, mismatch_record};
 
+use crate::bytes::put;
+
 // A place by row and column: a window's corner in the text, or a cell in the pattern.
 #[derive(Clone, Copy, Debug, PartialEq, Eq)]
 pub struct Place {
@@ -116,17 +118,6 @@ impl Record {
             Record::Closing { .. } => Kind::Closing,
         }
     }
-}
-
-// Writes bytes at a place; the place after them.
-fn put(listing: &mut [u8], at: usize, bytes: &[u8]) -> usize
-    requires { at + length bytes.now ≤ length listing.old }
-    ensures answer { result ≡ at + length bytes.now }
-    ensures listing_after { listing.new ≡ written listing.old at bytes.now }
-{
-    let end = at + bytes.len();
-    listing[at..end].copy_from_slice(bytes);
-    end
 }
 
 // The bytes of a mismatch behind its kind.
