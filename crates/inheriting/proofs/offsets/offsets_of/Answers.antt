@@ -11,7 +11,7 @@ pub cell_offset-requires : goal.cell_offset-requires
 cell_offset-requires c =
     let s = c.requires.0 in (
       s.broad,
-      c.requires.2,
+      omega (arith, c.requires.2, s.width_le),
       rw c.from-a.ensures (place_small c.args.pattern.now _ _ c.args.height c.args.width c.loop-a.a-index
           c.first_places.ensures c.requires.1 c.loop-a-test.true s.cells s.height_le s.width_le),
     )
