@@ -38,6 +38,11 @@ abbrev pub side_alike : Bool → Side
 side_alike true = Pattern
 side_alike false = Window
 
+-- and the other way
+abbrev pub in_pattern : Side → Bool
+in_pattern Pattern = true
+in_pattern Window = false
+
 -- kind 3 where the two cells are alike in the pattern only, kind 4 where alike in the window only
 abbrev pub mismatch_record : Bool → MismatchBody → Record
 mismatch_record alike body = Mismatch (side_alike alike) body

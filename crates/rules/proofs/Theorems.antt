@@ -25,8 +25,8 @@ use Rattle.listing.specs.Records.{bytes_of}
 use Rattle.listing.specs.Entries.{bytes_all}
 use Rattle.listing.specs.Entries.Laws.{bytes_append, bytes_one}
 use Rattle.listing.specs.declared.records.Record.TheVariants.{Closing}
-use Rattle.claims.specs.declared.walks.Walk.{Walk}
-use Rattle.claims.specs.declared.walks.Walk.TheVariants.{Goes, Stops}
+use Rattle.claims.specs.Claims.{Walk}
+use Rattle.std.specs.Prelude.{Ok, Err}
 use Rattle.rules.specs.Rules.Bytes.{Holds, holds_all, holds_both, holds_first, holds_second, holds_whole}
 use Rattle.rules.specs.Rules.{Entries, records_to, Keeps, KeepsRules}
 use Rattle.rules.proofs.Windows.{onward_goes, closing_sound, closing_complete, entries_read, bytes_to}
@@ -62,7 +62,7 @@ module _ (q : Question) (listing : List ℕ) where
     some = let s = posed_is.shape.sized.sides.width_good in omega arith
 
     -- the walk reaches the end: its entries keep the rules
-    keeps_sound : Bytes listing → (end : ℕ) → listing_walk q listing ≡ Goes end
+    keeps_sound : Bytes listing → (end : ℕ) → listing_walk q listing ≡ Ok end
         → KeepsRules q listing found_here refused_here
     unfolding listing_walk found_here refused_here found_to refused_to
     keeps_sound listing_bytes end e =
@@ -126,9 +126,9 @@ module _ (q : Question) (listing : List ℕ) where
 
     -- where the walk accepts, it reached the end
     reached_end : (c : Walk) (a b found refused : ℕ) → walk_said c a b ≡ accepts (found ∷ refused ∷ [])
-        → ((end : ℕ) × (c ≡ Goes end)) × (a ≡ found) × (b ≡ refused)
-    reached_end (Goes at) a b found refused e = let t = kept_values a b found refused e in ((at, refl), t.0, t.1)
-    reached_end (Stops why) a b found refused e =
+        → ((end : ℕ) × (c ≡ Ok end)) × (a ≡ found) × (b ≡ refused)
+    reached_end (Ok at) a b found refused e = let t = kept_values a b found refused e in ((at, refl), t.0, t.1)
+    reached_end (Err why) a b found refused e =
         absurd (not_accepted (number_of why) (values_of why) (found ∷ refused ∷ []) e)
 
     listing_sound : Bytes listing → (found refused : ℕ) → listing_said q listing ≡ accepts (found ∷ refused ∷ [])
@@ -164,8 +164,8 @@ module _ (q : Question) (listing : List ℕ) where
 -- a walk whose number is 0 went on to the end
 walked_zero : (w : Walk) (found refused : ℕ) → said_number (walk_said w found refused) ≡ 0
     → accepts (found ∷ refused ∷ []) ≡ walk_said w found refused
-walked_zero (Goes at) found refused e = refl
-walked_zero (Stops why) found refused e = absurd (omega (arith, number_positive why, e))
+walked_zero (Ok at) found refused e = refl
+walked_zero (Err why) found refused e = absurd (omega (arith, number_positive why, e))
 
 -- where the check's number is 0, it is accepted, with two counts
 pub check_zero : (q : Question) (listing : List ℕ) → said_number (check_of q listing) ≡ 0

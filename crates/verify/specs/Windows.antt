@@ -19,8 +19,8 @@ use Rattle.cells.specs.declared.windows.WindowPlace.{WindowPlace}
 use Rattle.sweep.specs.Sweep.{SidesOf}
 use Rattle.inheriting.specs.Inheritance.{CheckTables}
 use Rattle.inheriting.specs.Offsets.Laws.{prepared_none}
-use Rattle.claims.specs.declared.walks.Walk.{Walk}
-use Rattle.claims.specs.declared.walks.Walk.TheVariants.{Goes, Stops}
+use Rattle.claims.specs.Claims.{Walk}
+use Rattle.std.specs.Prelude.{Ok, Err}
 use Rattle.rules.specs.Check.{entry_from, place_in, windows_to, stands_found, found_to}
 use Rattle.rules.specs.Entries.{goes_found}
 use Rattle.verify.specs.declared.windows.Walked.{Walked}
@@ -29,13 +29,13 @@ use Rattle.verify.specs.declared.windows.Walked.TheVariants.{Passed, Stopped}
 -- where all windows end, and how many stand as found; or the first bad record
 abbrev pub WindowsWalked : Question → List ℕ → Walked → Type 0
 WindowsWalked q listing (Passed at found) =
-    (windows_to q listing (windows_of q) ≡ Goes at) × (found ≡ found_to q listing (windows_of q))
-WindowsWalked q listing (Stopped why) = windows_to q listing (windows_of q) ≡ Stops why
+    (windows_to q listing (windows_of q) ≡ Ok at) × (found ≡ found_to q listing (windows_of q))
+WindowsWalked q listing (Stopped why) = windows_to q listing (windows_of q) ≡ Err why
 
 -- ---- from window to window
 
 module _ (q : Question) (listing : List ℕ) where
-  pub windows_none : windows_to q listing 0 ≡ Goes 0
+  pub windows_none : windows_to q listing 0 ≡ Ok 0
   unfolding windows_to
   windows_none = refl
 
@@ -44,25 +44,25 @@ module _ (q : Question) (listing : List ℕ) where
   found_none = refl
 
   -- one window more, where the walk goes on
-  windows_next : (k at : ℕ) → windows_to q listing k ≡ Goes at
+  windows_next : (k at : ℕ) → windows_to q listing k ≡ Ok at
       → windows_to q listing (k + 1) ≡ entry_from q.text.cells q.pattern.cells (place_in q k) listing at
   unfolding windows_to
   windows_next k at e = rw (add-one k, e)
 
   -- where it has stopped, it stays so
-  windows_stay : (why : Refusal) (k m : ℕ) → windows_to q listing k ≡ Stops why
-      → windows_to q listing (k + m) ≡ Stops why
+  windows_stay : (why : Refusal) (k m : ℕ) → windows_to q listing k ≡ Err why
+      → windows_to q listing (k + m) ≡ Err why
   unfolding windows_to
   windows_stay why k zero e = rw (add-zero k) e
   windows_stay why k (suc m) e = rw (add-suc k m, windows_stay why k m e)
 
-  pub windows_stopped : (why : Refusal) (k n : ℕ) → k ≤ n → windows_to q listing k ≡ Stops why
-      → windows_to q listing n ≡ Stops why
+  pub windows_stopped : (why : Refusal) (k n : ℕ) → k ≤ n → windows_to q listing k ≡ Err why
+      → windows_to q listing n ≡ Err why
   windows_stopped why k n h e =
       ap (windows_to q listing) (omega arith) ∙ windows_stay why k (n - k) e
 
   -- what the records at a place say, of the window that is due there
-  module _ (k at : ℕ) (v : WindowPlace) (reached : windows_to q listing k ≡ Goes at)
+  module _ (k at : ℕ) (v : WindowPlace) (reached : windows_to q listing k ≡ Ok at)
       (v_is : v ≡ place_in q k) where
     pub windows_step : (c : Walk) → c ≡ entry_from q.text.cells q.pattern.cells v listing at
         → windows_to q listing (k + 1) ≡ c
@@ -71,7 +71,7 @@ module _ (q : Question) (listing : List ℕ) where
         ∙ ap (λ (u : WindowPlace). entry_from q.text.cells q.pattern.cells u listing at) v_is)
 
     -- one more is found where a found record stands
-    pub found_step : (found next r : ℕ) → Goes next ≡ entry_from q.text.cells q.pattern.cells v listing at
+    pub found_step : (found next r : ℕ) → Ok next ≡ entry_from q.text.cells q.pattern.cells v listing at
         → found ≡ found_to q listing k → r ≡ pick (eqb (get_or listing at 0) 1) (found + 1) found
         → r ≡ found_to q listing (k + 1)
     unfolding found_to count stands_found

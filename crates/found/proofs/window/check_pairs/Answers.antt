@@ -9,7 +9,7 @@ use lib.ListN.{length}
 use Rattle.sets.specs.Symbols.{symbols_of}
 use Rattle.matching.specs.Compare.{cell_of_pattern, window_of, cell_count}
 use Rattle.claims.specs.Claims.{pairs_from}
-use Rattle.claims.specs.declared.walks.Walk.{Walk}
+use Rattle.claims.specs.Claims.{Walk}
 use Rattle.sets.specs.Symbols.Patterns.{listed_symbol}
 use Rattle.pairs.specs.Pairs.{symbols_inside}
 use Rattle.sets.specs.Symbols.Patterns.{listed_few}
@@ -67,7 +67,7 @@ loop-i-preserved c =
     let i = c.loop-i in
     let e = c.check_pair-step.ensures i.invariant.before i.invariant.marked in
     left_passed _ _ _ _ _ _ (whole (goal.at.loop-i-preserved c).Start) _ _ _ i.invariant _ refl c.loop-i-test.true
-    _ _ e _ c.in-Goes.is
+    _ _ e _ c.in-Ok.is
 
 pub returns : goal.returns
 returns c =

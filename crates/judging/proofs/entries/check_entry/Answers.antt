@@ -6,7 +6,7 @@ use Rattle.theory.specs.Older.Laws.{older_next}
 use Rattle.reading.specs.Reader.{read_said, cursor_said}
 use Rattle.listing.specs.declared.records.Record.{Record}
 use Rattle.reading.specs.declared.reader.Cursor.{Cursor}
-use Rattle.reading.specs.declared.reader.Read.TheVariants.{Whole}
+use Rattle.std.specs.Prelude.{Ok, Err}
 use Rattle.rules.specs.Entries.{pattern_body, window_body, entry_none, entry_pair, entry_closing, entry_pattern}
 use Rattle.rules.specs.Entries.{entry_window, entry_not_due, found_entry_passes}
 use Rattle.judging.proofs.entries.check_entry.Goals as goal

@@ -7,7 +7,7 @@ use native.Mathlib.Omega.{arith}
 use lib.ListN.{get_or}
 use Rattle.listing.specs.Records.{bytes_of}
 use Rattle.reading.specs.Reader.{read_said, cursor_said}
-use Rattle.reading.specs.declared.reader.Read.TheVariants.{Whole}
+use Rattle.std.specs.Prelude.{Ok, Err}
 use Rattle.listing.specs.declared.records.Record.{Record}
 use Rattle.listing.specs.declared.records.Record.TheVariants.{Found, Pair, AlikeInPattern, AlikeInWindow, Closing}
 use Rattle.rules.specs.Entries.{closing_none, closing_other, other_found, other_refused, closing_not_last}

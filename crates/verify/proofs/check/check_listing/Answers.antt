@@ -7,7 +7,7 @@ use Prim.Native.Nat.{◌*◌, ◌≤◌}
 use Rattle.shapes.specs.Questions.{asked}
 use Rattle.shapes.specs.Shapes.{across, down}
 use Rattle.counts.specs.Counts.Laws.{windows_small}
-use Rattle.claims.specs.declared.walks.Walk.TheVariants.{Goes}
+use Rattle.std.specs.Prelude.{Ok, Err}
 use Rattle.rules.specs.Check.{windows_to, found_to}
 use Rattle.verify.specs.Windows.{WindowsWalked, found_le}
 use Rattle.verify.specs.Answers.{stopped_answer, closing_stopped, closing_kept}
@@ -16,7 +16,7 @@ use Rattle.verify.proofs.check.check_listing.Goals.{In-Passed}
 
 -- all windows are right: where they end, and how many stand as found
 passed : (c : In-Passed) → let a = c.args in
-    (windows_to (asked a.text.now a.pattern.now a.s) a.listing.now (down a.s * across a.s) ≡ Goes c.in-Passed.at)
+    (windows_to (asked a.text.now a.pattern.now a.s) a.listing.now (down a.s * across a.s) ≡ Ok c.in-Passed.at)
     × (c.in-Passed.found ≡ found_to (asked a.text.now a.pattern.now a.s) a.listing.now (down a.s * across a.s))
 passed c =
     let a = c.args in
@@ -49,16 +49,16 @@ returns-in-Stopped c =
     stopped_answer (asked a.text.now a.pattern.now a.s) a.listing.now c.in-Stopped.why
     (subst (WindowsWalked (asked a.text.now a.pattern.now a.s) a.listing.now) c.in-Stopped.is c.check_windows-walked.ensures)
 
-pub returns-in-Stops : goal.returns-in-Stops
-returns-in-Stops c =
+pub returns-in-Err : goal.returns-in-Err
+returns-in-Err c =
     let a = c.args in
-    let p = passed (goal.at.returns-in-Stops c).In-Passed in
+    let p = passed (goal.at.returns-in-Err c).In-Passed in
     closing_stopped (asked a.text.now a.pattern.now a.s) a.listing.now _ _ p.0 p.1 _ refl
-    c.in-Stops.why (sym c.in-Stops.is ∙ c.check_closing-last.ensures)
+    c.in-Err.why (sym c.in-Err.is ∙ c.check_closing-last.ensures)
 
-pub returns-in-Goes : goal.returns-in-Goes
-returns-in-Goes c =
+pub returns-in-Ok : goal.returns-in-Ok
+returns-in-Ok c =
     let a = c.args in
-    let p = passed (goal.at.returns-in-Goes c).In-Passed in
+    let p = passed (goal.at.returns-in-Ok c).In-Passed in
     closing_kept (asked a.text.now a.pattern.now a.s) a.listing.now _ _ p.0 p.1 _ refl
-    c.in-Goes.field-0 (sym c.in-Goes.is ∙ c.check_closing-last.ensures)
+    c.in-Ok.field-0 (sym c.in-Ok.is ∙ c.check_closing-last.ensures)

@@ -10,25 +10,25 @@ use Rattle.shapes.specs.Shapes.{across, down}
 use Rattle.counts.specs.Counts.Laws.{windows_small}
 use Rattle.matching.specs.Windows.Laws.{window_first, window_next, step_asks}
 use Rattle.shapes.specs.Questions.{ask, asked}
-use Rattle.claims.specs.declared.walks.Walk.TheVariants.{Goes, Stops}
+use Rattle.std.specs.Prelude.{Ok, Err}
 use Rattle.rules.specs.Check.{entry_from}
 use Rattle.rules.specs.Entries.{goes_inside}
 use Rattle.verify.specs.Windows.{windows_none, found_none, windows_step, windows_stopped, found_step, found_le}
 use Rattle.verify.specs.Windows.{window_asks, tables_window, tables_place}
 use Rattle.verify.proofs.windows.walk_windows.Goals as goal
-use Rattle.verify.proofs.windows.walk_windows.Goals.{In-Goes, In-Stops}
+use Rattle.verify.proofs.windows.walk_windows.Goals.{In-Ok, In-Err}
 
 -- a record of the window is bad
-halted : (c : In-Stops) →
+halted : (c : In-Err) →
     let a = c.args in
-    Stops c.in-Stops.why ≡ entry_from a.text.now a.pattern.now c.loop-k.v a.listing.now c.loop-k.at
-halted c = sym c.in-Stops.is ∙ c.check_entry-step.ensures.value
+    Err c.in-Err.why ≡ entry_from a.text.now a.pattern.now c.loop-k.v a.listing.now c.loop-k.at
+halted c = sym c.in-Err.is ∙ c.check_entry-step.ensures.value
 
 -- the window's records are right, and the next one begins behind them
-gone : (c : In-Goes) →
+gone : (c : In-Ok) →
     let a = c.args in
-    Goes c.in-Goes.next ≡ entry_from a.text.now a.pattern.now c.loop-k.v a.listing.now c.loop-k.at
-gone c = sym c.in-Goes.is ∙ c.check_entry-step.ensures.value
+    Ok c.in-Ok.next ≡ entry_from a.text.now a.pattern.now c.loop-k.v a.listing.now c.loop-k.at
+gone c = sym c.in-Ok.is ∙ c.check_entry-step.ensures.value
 
 pub overflow_mul-n : goal.overflow_mul-n
 overflow_mul-n c = omega (arith, windows_small c.args.s _ c.requires.0)
@@ -59,18 +59,18 @@ check_entry-step-requires c =
       tables_window _ _ _ _ _ i.k i.v _ _ _ i.invariant.1 i.invariant.6,
     )
 
-pub returns-in-Stops : goal.returns-in-Stops
-returns-in-Stops c =
+pub returns-in-Err : goal.returns-in-Err
+returns-in-Err c =
     let a = c.args in
     let i = c.loop-k in
-    windows_stopped (asked a.text.now a.pattern.now a.s) a.listing.now c.in-Stops.why (i.k + 1) _
+    windows_stopped (asked a.text.now a.pattern.now a.s) a.listing.now c.in-Err.why (i.k + 1) _
     (omega (arith, c.loop-k-test.true))
-    (windows_step (asked a.text.now a.pattern.now a.s) a.listing.now i.k i.at i.v (i.invariant.4 a.s.rows) i.invariant.1 _ (halted (goal.at.returns-in-Stops c).In-Stops))
+    (windows_step (asked a.text.now a.pattern.now a.s) a.listing.now i.k i.at i.v (i.invariant.4 a.s.rows) i.invariant.1 _ (halted (goal.at.returns-in-Err c).In-Err))
 
 pub bounds-listing-at : goal.bounds-listing-at
 bounds-listing-at c =
     let a = c.args in
-    goes_inside a.text.now a.pattern.now c.loop-k.v a.listing.now c.loop-k.at _ (gone (goal.at.bounds-listing-at c).In-Goes)
+    goes_inside a.text.now a.pattern.now c.loop-k.v a.listing.now c.loop-k.at _ (gone (goal.at.bounds-listing-at c).In-Ok)
 
 pub found_after-found-requires : goal.found_after-found-requires
 found_after-found-requires c =
@@ -103,7 +103,7 @@ pub loop-k-preserved : goal.loop-k-preserved
 loop-k-preserved c =
     let a = c.args in
     let i = c.loop-k in
-    let g = gone (goal.at.loop-k-preserved c).In-Goes in (
+    let g = gone (goal.at.loop-k-preserved c).In-Ok in (
       omega (arith, c.loop-k-test.true),
       window_next a.s.columns a.s.height a.s.width i.k i.v _ i.invariant.1 c.next_window-v.ensures,
       omega (arith, i.invariant.2),
