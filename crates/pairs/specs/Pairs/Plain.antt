@@ -12,7 +12,7 @@ use Rattle.matching.specs.Compare.{cell_of_pattern, window_of, cell_count}
 use Rattle.listing.specs.Records.{kind_size}
 use Rattle.claims.specs.Claims.{stands, pairs_from}
 use Rattle.claims.specs.Claims.Standing.{stands_tested}
-use Rattle.std.specs.Prelude.{Ok, Err}
+use Rattle.std.specs.Prelude.{Ok}
 use Rattle.pairs.specs.Pairs.{FoundWindow, Marked, PairRead, image_carried}
 use Rattle.pairs.specs.Pairs.Reading.{read_right}
 use Rattle.inheriting.specs.Offsets.{image_from_behind}
