@@ -168,7 +168,7 @@ module _ (text pattern : List ℕ) (v : WindowPlace) (listing : List ℕ) (bytes
 
   refused_sound : (side : Bool) (at end : ℕ) (image : ℕ → ℕ) → stands listing 1 at ≡ false
       → stands listing (kind_of side) at ≡ true
-      → right_mismatch side text pattern v listing at ≡ true → Ok (at + 7) ≡ Ok end
+      → right_mismatch side text pattern v listing at ≡ true → ◌≡◌ {A = Walk} (Ok (at + 7)) (Ok end)
       → EntryRight at end image (mismatched side (byte_at listing at 3 * v.width + byte_at listing at 4)
       (byte_at listing at 5 * v.width + byte_at listing at 6))
   refused_sound side at end image none s r e =

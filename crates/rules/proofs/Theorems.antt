@@ -31,16 +31,16 @@ use Rattle.rules.specs.Rules.Bytes.{Holds, holds_all, holds_both, holds_first, h
 use Rattle.rules.specs.Rules.{Entries, records_to, Keeps, KeepsRules}
 use Rattle.rules.proofs.Windows.{onward_goes, closing_sound, closing_complete, entries_read, bytes_to}
 use Rattle.rules.proofs.Windows.{windows_sound, windows_complete, kinds_complete}
-use Rattle.rules.specs.declared.checked.Checked.{Checked}
-use Rattle.rules.specs.declared.checked.Checked.TheVariants.{Kept, Refused}
+use Rattle.std.specs.Prelude.{Ok, Err}
+use Rattle.rules.specs.Check.{Checked, kept}
 
 -- an answer by what it says
 kept_values : (a b c d : ℕ) → accepts (a ∷ b ∷ []) ≡ accepts (c ∷ d ∷ []) → (a ≡ c) × (b ≡ d)
 kept_values a b c d e = (ap (λ (x : Said). get_or (said_values x) 0 0) e, ap (λ (x : Said). get_or (said_values x) 1 0) e)
 
-kept_is : (r : Checked) (found refused : ℕ) → checked_said r ≡ accepts (found ∷ refused ∷ []) → r ≡ Kept found refused
-kept_is (Kept a b) found refused e = let t = kept_values a b found refused e in rw (t.0, t.1)
-kept_is (Refused why) found refused e = absurd (not_accepted (number_of why) (values_of why) (found ∷ refused ∷ []) e)
+kept_is : (r : Checked) (found refused : ℕ) → checked_said r ≡ accepts (found ∷ refused ∷ []) → r ≡ kept found refused
+kept_is (Ok t) found refused e = let k = kept_values t.found t.refused found refused e in rw (← k.0, ← k.1) refl
+kept_is (Err why) found refused e = absurd (not_accepted (number_of why) (values_of why) (found ∷ refused ∷ []) e)
 
 module _ (q : Question) (listing : List ℕ) where
   found_here : ℕ
@@ -142,14 +142,14 @@ module _ (q : Question) (listing : List ℕ) where
 
   module _ (r : Checked) (checks : checked_said r ≡ check_of q listing) (pattern_bytes : Bytes q.pattern.cells) where
     -- a listing that keeps the rules is accepted, with its counts
-    pub accepts_all : (found refused : ℕ) → KeepsRules q listing found refused → r ≡ Kept found refused
+    pub accepts_all : (found refused : ℕ) → KeepsRules q listing found refused → r ≡ kept found refused
     unfolding check_of
     accepts_all found refused (e, k) =
         kept_is r found refused (checks ∙ rw (posed_said q k.posed_is)
         (keeps_complete pattern_bytes k.posed_is found refused e k))
 
     -- and nothing else is
-    pub accepts_only : Bytes listing → (found refused : ℕ) → r ≡ Kept found refused → KeepsRules q listing found refused
+    pub accepts_only : Bytes listing → (found refused : ℕ) → r ≡ kept found refused → KeepsRules q listing found refused
     unfolding check_of
     accepts_only listing_bytes found refused e =
         let a = then_both (shape_said q) (listing_said q listing) (found ∷ refused ∷ []) (sym checks ∙ ap checked_said e)
@@ -157,7 +157,7 @@ module _ (q : Question) (listing : List ℕ) where
         listing_sound pattern_bytes (posed q a.0.0 a.0.1) listing_bytes found refused a.1
 
     -- DEMAND 2: the check accepts exactly the listings that keep the rules
-    pub accepts_iff : Bytes listing → (found refused : ℕ) → (r ≡ Kept found refused)
+    pub accepts_iff : Bytes listing → (found refused : ℕ) → (r ≡ kept found refused)
         ↔ KeepsRules q listing found refused
     accepts_iff listing_bytes found refused = (accepts_only listing_bytes found refused, accepts_all found refused)
 
@@ -169,7 +169,7 @@ walked_zero (Err why) found refused e = absurd (omega (arith, number_positive wh
 
 -- where the check's number is 0, it is accepted, with two counts
 pub check_zero : (q : Question) (listing : List ℕ) → said_number (check_of q listing) ≡ 0
-    → (found : ℕ) × (refused : ℕ) × (checked_said (Kept found refused) ≡ check_of q listing)
+    → (found : ℕ) × (refused : ℕ) × (checked_said (kept found refused) ≡ check_of q listing)
 unfolding check_of listing_said
 check_zero q listing e = go (shape_said q) (shape_proper q) e
   where

@@ -2,10 +2,10 @@
 -- then the closing, then the end. The first bad record stops it, with 6 where its form is wrong and 7 where it is
 -- false. What a listing must be for the walk to reach the end is said without a walk in `Rules`.
 -- Assumes nothing.
-use Rattle.std.specs.Prelude.{Bool, true, false, not, List, [], ◌∷◌, ℕ, zero, suc, ◌+◌, ◌*◌, eqb, length}
+use Rattle.std.specs.Prelude.{Bool, true, false, not, List, [], ◌∷◌, ℕ, zero, suc, ◌+◌, ◌*◌, eqb, length, Result, Ok, Err}
 use Rattle.theory.specs.Test.{pick, both}
 use Rattle.theory.specs.Count.{count}
-use Rattle.refusals.specs.Said.{Said, accepts, ◌then◌, refusal_said}
+use Rattle.refusals.specs.Said.{Said, ◌then◌, answer_said}
 use Rattle.shapes.specs.Questions.{Question, windows_of, shape_said}
 use Rattle.sets.specs.Symbols.{symbols_of}
 use Rattle.refusals.specs.declared.refusals.Refusal.TheVariants.{ListingForm, ListingFalse}
@@ -14,9 +14,8 @@ use Rattle.matching.specs.Windows.{window_place}
 use Rattle.cells.specs.declared.windows.WindowPlace.{WindowPlace}
 use Rattle.claims.specs.Claims.{or_stop, onward, stands, byte_at, true_mismatch_test, pairs_from}
 use Rattle.claims.specs.Claims.{Walk}
-use Rattle.std.specs.Prelude.{Ok, Err}
-use Rattle.rules.specs.declared.checked.Checked.{Checked}
-use Rattle.rules.specs.declared.checked.Checked.TheVariants.{Kept, Refused}
+use Rattle.refusals.specs.declared.refusals.Refusal.{Refusal}
+use Rattle.rules.specs.declared.checked.Tally.{Tally}
 
 -- ---- one record
 
@@ -94,16 +93,22 @@ listing_walk q listing =
 
 -- ---- the operation
 
+-- what it answers: the listing keeps the rules, and so many windows stand as found and so many as refused; or the
+-- refusal
+abbrev pub Checked : Type 0
+Checked = Result Tally Refusal
+
+abbrev pub kept : ℕ → ℕ → Checked
+kept found refused = Ok (record { found = found; refused = refused })
+
 -- document 01's number and values of an answer: accepted, found and refused; of a refusal its number and what it
 -- returns besides, for 6 and 7 the place of the bad record
 abbrev pub checked_said : Checked → Said
-checked_said (Kept found refused) = accepts (found ∷ refused ∷ [])
-checked_said (Refused why) = refusal_said why
+checked_said = answer_said (λ (t : Tally). t.found ∷ t.refused ∷ [])
 
 -- a check that goes so, with these counts
 abbrev pub walk_said : Walk → ℕ → ℕ → Said
-walk_said (Ok at) found refused = accepts (found ∷ refused ∷ [])
-walk_said (Err why) found refused = refusal_said why
+walk_said walk found refused = answer_said (λ (at : ℕ). found ∷ refused ∷ []) walk
 
 -- 6 or 7 by the first bad record; accepted, found and refused
 unfoldable pub listing_said : Question → List ℕ → Said

@@ -18,8 +18,11 @@ use Rattle.listing.specs.Records.{bytes_of}
 use Rattle.reading.specs.Reader.{read_said, cursor_said, bytes_from}
 use Rattle.reading.specs.Reader.Reading.{HasRecord, has_inside}
 use Rattle.listing.specs.declared.records.MismatchBody.{MismatchBody}
+use Rattle.listing.specs.Entries.{in_pattern}
+use Rattle.listing.specs.declared.records.Side.{Side}
+use Rattle.listing.specs.declared.records.Side.TheVariants.{Pattern, Window}
 use Rattle.listing.specs.declared.records.Record.{Record}
-use Rattle.listing.specs.declared.records.Record.TheVariants.{Found, Pair, AlikeInPattern, AlikeInWindow, Closing}
+use Rattle.listing.specs.declared.records.Record.TheVariants.{Found, Pair, Mismatch, Closing}
 use Rattle.reading.specs.declared.reader.Cursor.{Cursor}
 use Rattle.std.specs.Prelude.{Ok, Err}
 use Rattle.claims.specs.Claims.{or_stop, byte_at, stands, true_mismatch_test, pairs_from}
@@ -77,24 +80,19 @@ six_are : (a b c d e f g h i j k l : ℕ) → a ≡ g → b ≡ h → c ≡ i �
     → a ∷ b ∷ c ∷ d ∷ e ∷ f ∷ [] ≡ g ∷ h ∷ i ∷ j ∷ k ∷ l ∷ []
 six_are a b c d e f g h i j k l p q r s t u = rw (p, q, r, s, t, u)
 
-module _ (body : MismatchBody) (listing : List ℕ) (at : ℕ) (next : Cursor) where
-  pub pattern_body : read_said (Ok ((AlikeInPattern body), next)) ≡ cursor_said listing at → MismatchAt body listing at
-  pattern_body r =
-      sym (six_are _ _ _ _ _ _ _ _ _ _ _ _ (byte 1 (omega arith)) (byte 2 (omega arith)) (byte 3 (omega arith))
-      (byte 4 (omega arith)) (byte 5 (omega arith)) (byte 6 (omega arith)))
-    where
-      byte : (i : ℕ) → i < length (bytes_of (AlikeInPattern body))
-          → byte_at listing at i ≡ get_or (bytes_of (AlikeInPattern body)) i 0
-      byte = whole_byte listing at (AlikeInPattern body) next r
-
-  pub window_body : read_said (Ok ((AlikeInWindow body), next)) ≡ cursor_said listing at → MismatchAt body listing at
-  window_body r =
-      sym (six_are _ _ _ _ _ _ _ _ _ _ _ _ (byte 1 (omega arith)) (byte 2 (omega arith)) (byte 3 (omega arith))
-      (byte 4 (omega arith)) (byte 5 (omega arith)) (byte 6 (omega arith)))
-    where
-      byte : (i : ℕ) → i < length (bytes_of (AlikeInWindow body))
-          → byte_at listing at i ≡ get_or (bytes_of (AlikeInWindow body)) i 0
-      byte = whole_byte listing at (AlikeInWindow body) next r
+pub mismatch_read : (alike : Side) (body : MismatchBody) (listing : List ℕ) (at : ℕ) (next : Cursor)
+    → read_said (Ok (Mismatch alike body, next)) ≡ cursor_said listing at → MismatchAt body listing at
+mismatch_read alike body listing at next r = go alike r
+  where
+    go : (alike : Side) → read_said (Ok (Mismatch alike body, next)) ≡ cursor_said listing at → MismatchAt body listing at
+    go Pattern r =
+        let byte = whole_byte listing at (Mismatch Pattern body) next r in
+        sym (six_are _ _ _ _ _ _ _ _ _ _ _ _ (byte 1 (omega arith)) (byte 2 (omega arith)) (byte 3 (omega arith))
+        (byte 4 (omega arith)) (byte 5 (omega arith)) (byte 6 (omega arith)))
+    go Window r =
+        let byte = whole_byte listing at (Mismatch Window body) next r in
+        sym (six_are _ _ _ _ _ _ _ _ _ _ _ _ (byte 1 (omega arith)) (byte 2 (omega arith)) (byte 3 (omega arith))
+        (byte 4 (omega arith)) (byte 5 (omega arith)) (byte 6 (omega arith)))
 
 -- ---- the window's records, by the record that stands first
 
@@ -119,44 +117,38 @@ module _ (text pattern : List ℕ) (v : WindowPlace) (listing : List ℕ) (at : 
             next reads 4 c,
       )
 
-  pub entry_pair : (a b : ℕ) (next : Cursor) → read_said (Ok ((Pair a b), next)) ≡ cursor_said listing at
+  pub entry_pair : (a b : ℕ) (next : Cursor) → read_said (Ok (Pair a b, next)) ≡ cursor_said listing at
       → Err (ListingForm at) ≡ entry_from text pattern v listing at
   entry_pair a b next r = entry_other (Pair a b) next r (λ e. omega arith) (λ e. omega arith) (λ e. omega arith)
 
-  pub entry_closing : (a b : ℕ) (next : Cursor) → read_said (Ok ((Closing a b), next)) ≡ cursor_said listing at
+  pub entry_closing : (a b : ℕ) (next : Cursor) → read_said (Ok (Closing a b, next)) ≡ cursor_said listing at
       → Err (ListingForm at) ≡ entry_from text pattern v listing at
   entry_closing a b next r = entry_other (Closing a b) next r (λ e. omega arith) (λ e. omega arith) (λ e. omega arith)
 
   -- a mismatch
-  pub entry_pattern : (body : MismatchBody) (next : Cursor)
-      → read_said (Ok ((AlikeInPattern body), next)) ≡ cursor_said listing at → (c : Walk)
-      → c ≡ or_stop (right_mismatch true text pattern v listing at) (ListingFalse at) (Ok next.at)
+  pub entry_mismatch : (alike : Side) (body : MismatchBody) (next : Cursor)
+      → read_said (Ok (Mismatch alike body, next)) ≡ cursor_said listing at → (c : Walk)
+      → c ≡ or_stop (right_mismatch (in_pattern alike) text pattern v listing at) (ListingFalse at) (Ok next.at)
       → c ≡ entry_from text pattern v listing at
   unfolding entry_from
-  entry_pattern body next r c e =
+  entry_mismatch Pattern body next r c e =
       rw (
-        whole_other listing at (AlikeInPattern body) next r 1 (λ z. omega arith),
-        whole_stands listing at (AlikeInPattern body) next r 3 refl,
-        ← (whole_next listing at (AlikeInPattern body) next r),
+        whole_other listing at (Mismatch Pattern body) next r 1 (λ z. omega arith),
+        whole_stands listing at (Mismatch Pattern body) next r 3 refl,
+        ← (whole_next listing at (Mismatch Pattern body) next r),
       )
       e
-
-  pub entry_window : (body : MismatchBody) (next : Cursor)
-      → read_said (Ok ((AlikeInWindow body), next)) ≡ cursor_said listing at → (c : Walk)
-      → c ≡ or_stop (right_mismatch false text pattern v listing at) (ListingFalse at) (Ok next.at)
-      → c ≡ entry_from text pattern v listing at
-  unfolding entry_from
-  entry_window body next r c e =
+  entry_mismatch Window body next r c e =
       rw (
-        whole_other listing at (AlikeInWindow body) next r 1 (λ z. omega arith),
-        whole_other listing at (AlikeInWindow body) next r 3 (λ z. omega arith),
-        whole_stands listing at (AlikeInWindow body) next r 4 refl,
-        ← (whole_next listing at (AlikeInWindow body) next r),
+        whole_other listing at (Mismatch Window body) next r 1 (λ z. omega arith),
+        whole_other listing at (Mismatch Window body) next r 3 (λ z. omega arith),
+        whole_stands listing at (Mismatch Window body) next r 4 refl,
+        ← (whole_next listing at (Mismatch Window body) next r),
       )
       e
 
   -- found: the window that is due, and its pairs
-  module _ (row column : ℕ) (next : Cursor) (r : read_said (Ok ((Found row column), next)) ≡ cursor_said listing at) where
+  module _ (row column : ℕ) (next : Cursor) (r : read_said (Ok (Found row column, next)) ≡ cursor_said listing at) where
     found_due : is_due v listing at ≡ both (eqb row v.row) (eqb column v.column)
     unfolding is_due
     found_due =
@@ -225,7 +217,7 @@ module _ (listing : List ℕ) (found refused at : ℕ) where
   unfolding closing_from
   closing_other r next reads n = rw (whole_other listing at r next reads 5 n)
 
-  module _ (a b : ℕ) (next : Cursor) (r : read_said (Ok ((Closing a b), next)) ≡ cursor_said listing at) where
+  module _ (a b : ℕ) (next : Cursor) (r : read_said (Ok (Closing a b, next)) ≡ cursor_said listing at) where
     -- its counts are those of its bytes
     counts_are : right_closing listing found refused at ≡ both (eqb a found) (eqb b refused)
     unfolding right_closing

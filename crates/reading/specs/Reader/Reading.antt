@@ -2,7 +2,7 @@
 -- kind and the bytes behind it, as many as the kind says; so a function that takes these bytes one by one has read the
 -- record.
 -- Assumes nothing.
-use Rattle.std.specs.Prelude.{◌≡◌, refl, List, [], ◌∷◌, ℕ, zero, suc, ◌+◌, ◌-◌, ◌≤◌, ◌<◌, get_or, take, drop, Err}
+use Rattle.std.specs.Prelude.{◌≡◌, refl, List, [], ◌∷◌, ℕ, zero, suc, ◌+◌, ◌-◌, ◌*◌, ◌/◌, ◌%◌, ◌≤◌, ◌<◌, get_or, take, drop, Err}
 use Rattle.std.proofs.Common.{sym, ◌∙◌, ap, drop-cons}
 use native.Mathlib.Omega.{arith}
 use Rattle.std.proofs.Math.ListN.{length}
@@ -128,3 +128,37 @@ kind_whole l at Pair bytes k h e = reads_whole l at 2 2 bytes k (size_known Pair
 kind_whole l at (Mismatch side) bytes k h e =
     reads_whole l at (kind_byte (Mismatch side)) 6 bytes k (size_known (Mismatch side)) h e
 kind_whole l at Closing bytes k h e = reads_whole l at 5 4 bytes k (size_known Closing) h e
+
+pub size_found : kind_size 1 ≡ 3
+unfolding kind_size
+size_found = refl
+
+pub size_pair : kind_size 2 ≡ 3
+unfolding kind_size
+size_pair = refl
+
+pub size_alike_in_pattern : kind_size 3 ≡ 7
+unfolding kind_size
+size_alike_in_pattern = refl
+
+pub size_alike_in_window : kind_size 4 ≡ 7
+unfolding kind_size
+size_alike_in_window = refl
+
+pub size_closing : kind_size 5 ≡ 5
+unfolding kind_size
+size_closing = refl
+
+-- ---- two bytes of a number
+
+-- the number of two bytes has them as its high and its low byte
+high_byte : (high low : ℕ) → low < 256 → (high * 256 + low) / 256 ≡ high
+high_byte high low h = omega arith
+
+low_byte : (high low : ℕ) → low < 256 → (high * 256 + low) % 256 ≡ low
+low_byte high low h = omega arith
+
+-- two numbers, each of two bytes
+pub two_numbers : (a b c d found refused : ℕ) → b < 256 → d < 256 → found ≡ a * 256 + b → refused ≡ c * 256 + d
+    → (found / 256) ∷ (found % 256) ∷ (refused / 256) ∷ (refused % 256) ∷ [] ≡ a ∷ b ∷ c ∷ d ∷ []
+two_numbers a b c d found refused h k e f = rw (e, f, high_byte a b h, low_byte a b h, high_byte c d k, low_byte c d k)

@@ -20,7 +20,7 @@ use Rattle.listing.specs.Entries.Laws.{bytes_none, bytes_cons, pairs_none, pairs
 use Rattle.listing.specs.declared.records.Record.TheVariants.{Pair}
 use Rattle.claims.specs.Claims.{or_stop, byte_at, stands, has_image_test, right_pair, pairs_from}
 use Rattle.claims.specs.Claims.{Walk}
-use Rattle.std.specs.Prelude.{Ok, Err}
+use Rattle.std.specs.Prelude.{Ok}
 use Rattle.rules.specs.Check.{place_reached}
 use Rattle.claims.specs.Walks.{goes_not_stops}
 use Rattle.pairs.specs.Pairs.{has_image_tested}
@@ -36,7 +36,7 @@ pub goes_on : (ok : Bool) (why : Refusal) (after : Walk) (end : ℕ) → or_stop
 goes_on true why after end e = (refl, e)
 goes_on false why after end e = absurd (goes_not_stops end why (sym e))
 
-pub goes_to : (a b : ℕ) → Ok a ≡ Ok b → a ≡ b
+pub goes_to : (a b : ℕ) → ◌≡◌ {A = Walk} (Ok a) (Ok b) → a ≡ b
 goes_to a b e = ap place_reached e
 
 -- ---- a symbol in a list
