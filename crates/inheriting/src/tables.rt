@@ -4,6 +4,7 @@ ghost use Rattle.std.specs.Prelude.{◌≡◌, replicate, None};
 use rows::places::no_positions;
 use shapes::tables::no_entries;
 
+#[derive(Drop)]
 pub struct Tables {
     // for each text symbol the mark of the last window in which a pair gave it
     pub given: [u32; 256],

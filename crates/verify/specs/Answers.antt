@@ -12,16 +12,14 @@ use Rattle.refusals.specs.declared.refusals.Outcome.TheVariants.{Refused as Refu
 use Rattle.claims.specs.Claims.{Walk}
 use Rattle.std.specs.Prelude.{Ok, Err}
 use Rattle.rules.specs.Check.{closing_from, windows_to, stands_found, found_to, refused_to, listing_walk, checked_said}
-use Rattle.rules.specs.Check.{walk_said, listing_said, check_of}
-use Rattle.rules.specs.declared.checked.Checked.{Checked}
-use Rattle.rules.specs.declared.checked.Checked.TheVariants.{Kept, Refused}
+use Rattle.rules.specs.Check.{Checked, kept, walk_said, listing_said, check_of}
 
 -- ---- the walk's answer
 
 module _ (q : Question) (listing : List ℕ) where
   -- a window stops it
   pub stopped_answer : (why : Refusal) → windows_to q listing (windows_of q) ≡ Err why
-      → checked_said (Refused why) ≡ listing_said q listing
+      → checked_said (Err why) ≡ listing_said q listing
   unfolding listing_said listing_walk
   stopped_answer why e = rw e
 
@@ -40,18 +38,18 @@ module _ (q : Question) (listing : List ℕ) where
       closing_answer c e = rw (reached, e, refused_is ∙ refused_rest, found_is)
 
       pub closing_stopped : (why : Refusal) → Err why ≡ closing_from listing found refused at
-          → checked_said (Refused why) ≡ listing_said q listing
+          → checked_said (Err why) ≡ listing_said q listing
       closing_stopped why e = closing_answer (Err why) e
 
       pub closing_kept : (next : ℕ) → Ok next ≡ closing_from listing found refused at
-          → checked_said (Kept found refused) ≡ listing_said q listing
+          → checked_said (kept found refused) ≡ listing_said q listing
       closing_kept next e = closing_answer (Ok next) e
 
   -- ---- 2, 3, 4 before it
 
   -- what they refuse stays so
   pub check_refused : (o : Outcome) (why : Refusal) → o ≡ RefusedOutcome why → outcome_said o ≡ shape_said q
-      → checked_said (Refused why) ≡ check_of q listing
+      → checked_said (Err why) ≡ check_of q listing
   unfolding check_of
   check_refused o why e d = rw (← d, e)
 
