@@ -1,5 +1,6 @@
 // The records of a listing, and their bytes.
 #![tactic(auto)]
 
+pub mod bytes;
 pub mod records;
 pub mod totals;
