@@ -9,6 +9,7 @@ ghost use Rattle.inheriting.specs.Offsets.{corner_of, Offsets, ImagesInside};
 use cells::windows::WindowPlace;
 use inheriting::inherit::inherited_rows;
 use inheriting::offsets::image_behind;
+use rows::run::FirstEnd;
 
 // One row: cells is the pattern's row, row the window's. Two cells a round, and one left over where the row is of odd
 // length: one cell a round, by an index or by zip, takes 1.2 to 1.6 times as long on rows of 8 to 255 cells (measured).
@@ -95,17 +96,17 @@ pub fn carries(
     v: WindowPlace,
     pattern: &[u8],
     offsets: &[usize; 256],
-    selves: &mut [usize; 256],
+    own: &mut [FirstEnd; 256],
     tops: &mut [Option<usize>; 256],
 ) -> bool
     requires { Placed text.now v × (length pattern.now ≡ cell_count v)
         × Offsets pattern.now v.columns v.width offsets.now
-        × Above text.now pattern.now v.columns v.height v.width selves.old tops.old }
+        × Above text.now pattern.now v.columns v.height v.width own.old tops.old }
     ensures follows { result ≡ true → Follows (cell_of_pattern pattern.now) (window_of text.now v) (cell_count v) }
-    ensures above { Above text.now pattern.now v.columns v.height v.width selves.new
+    ensures above { Above text.now pattern.now v.columns v.height v.width own.new
         tops.new }
 {
-    let known = inherited_rows(text, v, pattern, selves, tops);
+    let known = inherited_rows(text, v, pattern, own, tops);
     if !rows_carry(text, v, pattern, offsets, known) {
         return false;
     }

@@ -173,7 +173,7 @@ pub fn found_pairs(
         v,
         pattern,
         offsets,
-        &mut tables.selves,
+        &mut tables.own,
         &mut tables.tops,
     );
     check_pairs(

@@ -6,8 +6,9 @@ ghost use Rattle.sweep.specs.Sweep.{SidesOf};
 ghost use Rattle.inheriting.specs.Inheritance.{Follows, own_end_of, OwnEndsMade, OwnEndsIfMade, Above};
 
 use cells::windows::WindowPlace;
-use placed::placing::AS_IT_IS;
-use rows::places::{first_places, no_positions};
+use placed::pattern::Pattern;
+use rows::places::no_positions;
+use rows::run::FirstEnd;
 use sweep::own::own_ends;
 
 // The first end of the pattern's rows from k on against the pattern itself. All of them are made when one is first
@@ -16,31 +17,20 @@ fn own_end(
     pattern: &[u8],
     height: usize,
     width: usize,
-    selves: &mut [usize; 256],
+    own: &mut [FirstEnd; 256],
     k: usize,
 ) -> usize
-    requires { SidesOf pattern.now height width × OwnEndsIfMade pattern.now height width selves.old × (k < height) }
+    requires { SidesOf pattern.now height width × OwnEndsIfMade pattern.now height width own.old × (k < height) }
     ensures value { result ≡ own_end_of pattern.now (k * width) }
-    ensures own_ends_made { OwnEndsMade pattern.now height width selves.new }
+    ensures own_ends_made { OwnEndsMade pattern.now height width own.new }
 {
-    if 0 < selves[0] {
-        return selves[k];
+    if 0 < own[0].end {
+        return own[k].end;
     }
     let mut first = no_positions();
-    let mut earlies = no_positions();
-    first_places(pattern, &mut first);
-    own_ends(
-        pattern,
-        AS_IT_IS,
-        height,
-        width,
-        height,
-        height,
-        &first,
-        selves,
-        &mut earlies,
-    );
-    selves[k]
+    pattern.first_places(&mut first);
+    own_ends(pattern, height, width, height, height, &first, own);
+    own[k].end
 }
 
 // How many rows of the window follow the pattern because the carried window above that was kept does: all but the last
@@ -50,14 +40,14 @@ pub fn inherited_rows(
     text: &[u8],
     v: WindowPlace,
     pattern: &[u8],
-    selves: &mut [usize; 256],
+    own: &mut [FirstEnd; 256],
     tops: &[Option<usize>; 256],
 ) -> usize
     requires { Placed text.now v × (length pattern.now ≡ cell_count v)
-        × Above text.now pattern.now v.columns v.height v.width selves.old tops.now }
+        × Above text.now pattern.now v.columns v.height v.width own.old tops.now }
     ensures inherited { (result ≤ v.height)
         × Follows (cell_of_pattern pattern.now) (window_of text.now v) (result * v.width) }
-    ensures above { Above text.now pattern.now v.columns v.height v.width selves.new
+    ensures above { Above text.now pattern.now v.columns v.height v.width own.new
         tops.now }
 {
     let WindowPlace {
@@ -77,7 +67,7 @@ pub fn inherited_rows(
     if height <= k {
         return 0;
     }
-    let end = own_end(pattern, height, width, selves, k);
+    let end = own_end(pattern, height, width, own, k);
     if end < pattern.len() - k * width {
         return 0;
     }

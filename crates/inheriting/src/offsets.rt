@@ -7,7 +7,8 @@ ghost use Rattle.sweep.specs.Sweep.{SidesOf};
 ghost use Rattle.inheriting.specs.Offsets.{image_from_behind, Offsets, Prepared, Made};
 
 use cells::windows::cell_offset;
-use rows::places::{first_places, no_positions};
+use placed::pattern::Pattern;
+use rows::places::no_positions;
 
 // The offset of each of the pattern's symbols, from the symbol's first place.
 fn offsets_of(
@@ -21,7 +22,7 @@ fn offsets_of(
     ensures { Offsets pattern.now columns width result }
 {
     let mut first = no_positions();
-    first_places(pattern, &mut first);
+    pattern.first_places(&mut first);
     let mut offsets = no_positions();
     for a in symbols {
         let a = usize::from(*a);

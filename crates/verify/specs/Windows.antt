@@ -17,7 +17,8 @@ use Rattle.matching.specs.Compare.{Placed, cell_count}
 use Rattle.matching.specs.Windows.{window_place}
 use Rattle.matching.specs.Windows.Laws.{placed_window}
 use Rattle.cells.specs.declared.windows.WindowPlace.{WindowPlace}
-use Rattle.sweep.specs.Sweep.{SidesOf}
+use Rattle.rows.specs.declared.run.FirstEnd.{FirstEnd}
+use Rattle.sweep.specs.Sweep.{own_at, SidesOf}
 use Rattle.inheriting.specs.Inheritance.{CheckTables}
 use Rattle.inheriting.specs.declared.tables.Tables.{Tables}
 use Rattle.inheriting.specs.Offsets.Laws.{prepared_none}
@@ -98,7 +99,7 @@ window_asks text pattern s shape size k h v e =
 
 -- before the first window nothing is
 pub tables_none : (text pattern : List ℕ) (columns height width : ℕ) (tables : Tables) → SidesOf pattern height width
-    → columns ≤ 255 → tables.offsets ≡ None → tables.selves ≡ replicate 256 0 → tables.tops ≡ replicate 256 None
+    → columns ≤ 255 → tables.offsets ≡ None → tables.own ≡ replicate 256 (record { end = 0; earlier = 0 }) → tables.tops ≡ replicate 256 None
     → CheckTables text pattern columns height width tables
 tables_none text pattern columns height width tables sides narrow f s t =
     record {
@@ -110,15 +111,19 @@ tables_none text pattern columns height width tables sides narrow f s t =
           each = λ j row e. absurd (none j row (rw t at e));
         };
         owned = record {
-          long = (older_zeros 1 tables.selves (omega arith) s).long;
-          made = λ h. absurd (unmade tables.selves s h);
+          long = rw s (length-replicate {A = FirstEnd} 256 (record { end = 0; earlier = 0 }));
+          made = λ h. absurd (unmade (subst (λ (l : List FirstEnd). 0 < (own_at l 0).end) s h));
         };
       };
       prepared = rw f (prepared_none pattern columns width);
     }
   where
-    unmade : (l : List ℕ) → l ≡ replicate 256 0 → 0 < get_or l 0 0 → ⊥
-    unmade l e h = omega (arith, (older_zeros 1 l (omega arith) e).below 0)
+    none_made : (n : ℕ) → (own_at (replicate {A = FirstEnd} n (record { end = 0; earlier = 0 })) 0).end ≡ 0
+    none_made zero = refl
+    none_made (suc n) = refl
+
+    unmade : 0 < (own_at (replicate {A = FirstEnd} 256 (record { end = 0; earlier = 0 })) 0).end → ⊥
+    unmade h = omega (arith, h, none_made 256)
 
     nones : (n j : ℕ) → get_or (replicate {A = Option ℕ} n None) j None ≡ None
     nones zero j = refl

@@ -6,10 +6,10 @@ ghost use Rattle.shapes.specs.Questions.{Posed, ask, asked};
 ghost use Rattle.rules.specs.Check.{checked_said, listing_said, check_of};
 
 use crate::windows::{Passed, check_windows};
-use refusals::refusals::{Outcome, Refusal};
+use refusals::refusals::Refusal;
 use rules::checked::Tally;
 use rules::closing::check_closing;
-use shapes::shapes::{Shape, question_outcome};
+use shapes::shapes::Shape;
 
 // The check where sides and cells are good.
 fn check_listing(text: &[u8], pattern: &[u8], s: Shape, listing: &[u8]) -> Result<Tally, Refusal>
@@ -17,8 +17,7 @@ fn check_listing(text: &[u8], pattern: &[u8], s: Shape, listing: &[u8]) -> Resul
     ensures { checked_said result ≡ listing_said (asked text.now pattern.now s) listing.now }
 {
     let Passed { at, found } = check_windows(text, pattern, s, listing)?;
-    let windows = (s.rows + 1 - s.height) * (s.columns + 1 - s.width);
-    let refused = (windows - usize::from(found)) as u16;
+    let refused = (s.windows() - usize::from(found)) as u16;
     let _end = check_closing(listing, found, refused, at)?;
     Ok(Tally { found, refused })
 }
@@ -26,6 +25,7 @@ fn check_listing(text: &[u8], pattern: &[u8], s: Shape, listing: &[u8]) -> Resul
 // Checks a listing for a text and a pattern. Refused by 2, 3, 4, then by 6 or 7 with the place of the first bad record.
 // That text, pattern and listing are bytes, which their types say, is ensured too, so that demand 3 needs nothing but
 // what stands here.
+#[tactic(auto, unfolding(rules::specs::Check::check_of))]
 pub fn check(
     text: &[u8],
     rows: usize,
@@ -45,9 +45,6 @@ pub fn check(
         height,
         width,
     };
-    let outcome = question_outcome(text, pattern, s);
-    match outcome {
-        Outcome::Refused(why) => Err(why),
-        Outcome::Accepted => check_listing(text, pattern, s, listing),
-    }
+    s.question_outcome(text, pattern)?;
+    check_listing(text, pattern, s, listing)
 }

@@ -14,7 +14,8 @@ use Rattle.cells.specs.Windows.Laws.{window_strip}
 use Rattle.cells.specs.declared.windows.WindowPlace.{WindowPlace}
 use Rattle.matching.specs.Compare.{cell_of_pattern, window_of, cell_count}
 use Rattle.prefixes.specs.Prefixes.{suffix}
-use Rattle.sweep.specs.Sweep.{SidesOf, OwnMismatches}
+use Rattle.rows.specs.declared.run.FirstEnd.{FirstEnd}
+use Rattle.sweep.specs.Sweep.{own_at, SidesOf, OwnMismatches}
 use Rattle.inheriting.specs.Carries.{Carried}
 use Rattle.inheriting.specs.Offsets.{corner_of, image_from_behind, Offsets}
 use Rattle.cells.specs.Windows.Laws.{offset_at}
@@ -44,10 +45,10 @@ follows_carried text v pattern offsets n leads le follows = record { carries = g
         ∙ follows.same q p (omega (arith, f.0)) h f.1
 
 -- own ends of all rows are those of the whole pattern, which has no other cells
-pub own_ends_all : (pattern : List ℕ) (height width : ℕ) (selves earlies : List ℕ) → SidesOf pattern height width
-    → OwnMismatches pattern width (height * width) height selves earlies → OwnEndsMade pattern height width selves
-own_ends_all pattern height width selves earlies sides owns =
-    record { long = owns.selves_long; each = λ k h. rw sides.cells (owns.each k h).end_is }
+pub own_ends_all : (pattern : List ℕ) (height width : ℕ) (own : List FirstEnd) → SidesOf pattern height width
+    → OwnMismatches pattern width (height * width) height own → OwnEndsMade pattern height width own
+own_ends_all pattern height width own sides owns =
+    record { long = owns.long; each = λ k h. rw sides.cells (owns.each k h).end_is }
 
 -- ---- the window below
 
@@ -110,8 +111,8 @@ module _ (text pattern : List ℕ) (v : WindowPlace) (above k end : ℕ) (some :
 
 -- ---- from window to window
 
-module _ (text pattern : List ℕ) (columns height width : ℕ) (selves : List ℕ)
-    (tops : List (Option ℕ)) (here : Above text pattern columns height width selves tops) where
+module _ (text pattern : List ℕ) (columns height width : ℕ) (own : List FirstEnd)
+    (tops : List (Option ℕ)) (here : Above text pattern columns height width own tops) where
   -- the own ends are made
   pub above_made : (made : List ℕ) → OwnEndsMade pattern height width made
       → Above text pattern columns height width made tops
@@ -126,7 +127,7 @@ module _ (text pattern : List ℕ) (columns height width : ℕ) (selves : List �
   -- one more window follows
   pub above_more : (row column : ℕ) → column < columns
       → Follows (cell_of_pattern pattern) (window_at text columns row column width) (height * width)
-      → Above text pattern columns height width selves (set tops column (Some row))
+      → Above text pattern columns height width own (set tops column (Some row))
   above_more row column inside follows =
       record {
         sides = here.sides;

@@ -4,6 +4,7 @@
 use Rattle.std.proofs.Common.{◌≡◌, ◌*◌, Ok, Err, sym, ◌∙◌, subst, arith, rules}
 use Rattle.shapes.specs.Questions.{asked}
 use Rattle.shapes.specs.Shapes.{across, down}
+use Rattle.shapes.specs.Shapes.Laws.{windows_ask}
 use Rattle.rules.specs.Check.{windows_to, found_to}
 use Rattle.verify.specs.Windows.{WindowsWalked, found_le}
 use Rattle.verify.specs.Answers.{stopped_answer, closing_stopped, closing_kept}
@@ -26,11 +27,15 @@ returns-in_err-at c =
     rw is (stopped_answer q c.args.listing.now c.in_err-at.field-0.0
     (subst (WindowsWalked q c.args.listing.now) c.in_err-at.was c.check_windows.ensures))
 
+pub windows-requires : goal.windows-requires
+windows-requires c = windows_ask _ _ _ _ c.requires.shape.sized
+
 pub overflow_sub-refused : goal.overflow_sub-refused
 overflow_sub-refused c =
     let q = asked c.args.text.now c.args.pattern.now c.args.s in
     omega (
       arith,
+      c.windows.ensures,
       (passed (goal.at.overflow_sub-refused c).In_ok-at).1,
       found_le q c.args.listing.now (down c.args.s * across c.args.s),
     )
@@ -40,10 +45,10 @@ returns-in_err-_end c =
     let p = passed (goal.at.returns-in_err-_end c).In_ok-at in
     let is : c.from_residual-in_err-_end.result ≡ Err c.in_err-_end.field-0.0 = search rules in
     rw is (closing_stopped (asked c.args.text.now c.args.pattern.now c.args.s) c.args.listing.now _ _ p.0 p.1 _
-    (omega (arith, c.from.ensures)) c.in_err-_end.field-0.0 (sym c.in_err-_end.was ∙ c.check_closing.ensures))
+    (omega (arith, c.from.ensures, c.windows.ensures)) c.in_err-_end.field-0.0 (sym c.in_err-_end.was ∙ c.check_closing.ensures))
 
 pub returns : goal.returns
 returns c =
     let p = passed (goal.at.returns c).In_ok-at in
     closing_kept (asked c.args.text.now c.args.pattern.now c.args.s) c.args.listing.now _ _ p.0 p.1 _
-    (omega (arith, c.from.ensures)) c.in_ok-_end._end (sym c.in_ok-_end.was ∙ c.check_closing.ensures)
+    (omega (arith, c.from.ensures, c.windows.ensures)) c.in_ok-_end._end (sym c.in_ok-_end.was ∙ c.check_closing.ensures)

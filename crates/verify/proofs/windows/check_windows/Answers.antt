@@ -23,5 +23,5 @@ walk_windows-requires c =
         broad = sides.width_good.positive;
         height_le = sides.height_good.small;
         width_le = sides.width_good.small;
-      }) sides.columns_good.small fresh.offsets fresh.selves fresh.tops,
+      }) sides.columns_good.small fresh.offsets fresh.own fresh.tops,
     )
