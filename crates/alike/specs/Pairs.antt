@@ -73,7 +73,8 @@ module _ (pattern : List ℕ) (columns width : ℕ) where
 
   module _ (first : List ℕ) (places : FirstPlaces (λ k. get_or pattern k 0) (length pattern) first) where
     -- a position with the first place of its symbol
-    pub pair_first : (q x y : ℕ) → q < length pattern → x ≡ offset_of columns width (get_or first (get_or pattern q 0) 0)
+    pub pair_first : (q x y : ℕ) → q < length pattern
+        → x ≡ offset_of columns width (get_or first (get_or pattern q 0) 0)
         → y ≡ offset_of columns width q → PairAt pattern columns width x y
     pair_first q x y h e f =
         let a = places.each q h in

@@ -16,8 +16,8 @@ pub struct Pair {
 }
 
 // Up to eight pairs of cells that are alike in the pattern: the first positions whose symbol stands before them, each
-// with the first place of that symbol. The rest are the corner with itself, which is alike in every window. The contract
-// says only that all eight are alike; which they are is a matter of time.
+// with the first place of that symbol. The rest are the corner with itself, which is alike in every window. The
+// contract says only that all eight are alike; which they are is a matter of time.
 pub fn alike_pairs<P: Pattern>(
     pattern: P,
     first: &[usize; 256],

@@ -6,8 +6,8 @@ ghost use Rattle.linked.specs.Run.{linked_test, CompareAt, EndsBy, WindowAsked, 
 use placed::pattern::Pattern;
 use rows::run::{FirstEnd, Run};
 
-// Where a run down a strip stands behind a window, and the position at which a mismatch of the window ends first, or the
-// pattern's length.
+// Where a run down a strip stands behind a window, and the position at which a mismatch of the window ends first, or
+// the pattern's length.
 #[derive(Clone, Copy)]
 pub struct RunEnd {
     pub run: Run,
@@ -56,8 +56,8 @@ fn linked_end<P: Pattern>(
     n
 }
 
-// The window at row top, where a run stands before it: its end is the pattern's own where that lies in what agreed of the
-// last window compared, and else what agreed of that one agrees of this one too.
+// The window at row top, where a run stands before it: its end is the pattern's own where that lies in what agreed of
+// the last window compared, and else what agreed of that one agrees of this one too.
 fn next_linked<P: Pattern>(
     pattern: P,
     first: &[usize; 256],

@@ -1,6 +1,6 @@
 // Two cells that spoiled a window: they are alike in the pattern and were not in the window, or the other way round.
 // They often spoil the next window too, and to look at them costs less than to compare it.
-ghost use Rattle.std.specs.Prelude.{◌≡◌, true, List, ℕ, ◌≤◌, ◌<◌, length};
+ghost use Rattle.std.specs.Prelude.{◌≡◌, true, ◌≤◌, ◌<◌, length};
 ghost use Rattle.shapes.specs.Shapes.{down};
 ghost use Rattle.sieve.specs.Sieve.{Differs, SpoilerOf, StripAsked, no_spoiler};
 
@@ -31,11 +31,19 @@ impl Spoiler {
     }
 
     // True only where the window at row top does not match: the two cells are alike in it and not in the pattern, or in
-    // the pattern and not in it. Where it is false nothing is said: such a window is compared.
-    pub fn spoils(self, text: &[u8], s: Shape, left: usize, top: usize) -> bool
-        ghost pattern: { List ℕ }
-        requires { StripAsked text.now pattern s left × SpoilerOf pattern s.columns s.width self × (top < down s) }
-        ensures { result ≡ true → Differs text.now pattern s left top }
+    // the pattern and not in it. Where it is false nothing is said: such a window is compared. The
+    // pattern itself is not read: it stands here for the contract.
+    pub fn spoils<P: Pattern>(
+        self,
+        text: &[u8],
+        pattern: P,
+        s: Shape,
+        left: usize,
+        top: usize,
+    ) -> bool
+        requires { StripAsked text.now (P.cells pattern) s left × SpoilerOf (P.cells pattern) s.columns s.width self
+            × (top < down s) }
+        ensures { result ≡ true → Differs text.now (P.cells pattern) s left top }
     {
         let corner = top * s.columns + left;
         let alike = text[corner + self.cells.earlier] == text[corner + self.cells.later];

@@ -1,12 +1,9 @@
--- Laws of a run: the test of a position tells whether a mismatch ends there; a comparison begins, goes one position on
--- and ends; the next window is compared anew, inherits its end, or goes on where the last one ended.
+-- Laws of a run: the test of a position tells whether a mismatch ends there; a comparison goes one position on, or
+-- ends; the next window inherits its end, or is compared from where it is known to agree.
 -- Assumes nothing.
-use Rattle.std.specs.Prelude.{◌≡◌, Bool, true, false, List, ℕ, ◌+◌, ◌-◌, ◌*◌, ◌≤◌, ◌<◌, eqb, ltb, length}
-use Rattle.std.proofs.Common.{sym, ◌∙◌, add-mul, arith, eq-eqb, ne_eqb}
-use Rattle.std.proofs.Math.Path.{ap}
-use Rattle.std.proofs.Math.Bool.{not}
+use Rattle.std.specs.Prelude.{◌≡◌, Bool, true, false, List, ℕ, ◌+◌, ◌-◌, ◌*◌, ◌≤◌, ◌<◌, eqb, ltb, length, get_or, not}
+use Rattle.std.proofs.Common.{sym, ◌∙◌, ap, add-mul, arith, eq-eqb, ne_eqb}
 use Rattle.std.proofs.lemmas.Bool.{not-true, not-false}
-use Rattle.std.proofs.Math.ListN.{get_or}
 use Rattle.theory.specs.Test.{pick, both, Tested, holds, fails}
 use Rattle.theory.specs.Test.Laws.{eq_tested, lt_tested, le_tested}
 use Rattle.theory.specs.First.Laws.{first_is}
@@ -68,9 +65,6 @@ module _ (pattern : List ℕ) (t : ℕ → ℕ) (i p : ℕ) (first : List ℕ) (
 -- ---- one window, position after position
 
 module _ (pattern first links : List ℕ) (start from : ℕ) (asked : CompareAt pattern first links start from) where
-  pub compared_none : Compared pattern links start from from
-  compared_none = record { within = asked.within; clear = λ t l c. c }
-
   module _ (p : ℕ) (inside : p < length pattern) (here : Compared pattern links start from p) (d a : ℕ)
       (ed : d ≡ get_or links (start + p) 0) (ea : a ≡ get_or pattern p 0) (r : Bool)
       (er : r ≡ linked_test pattern first p d a) where
@@ -94,13 +88,6 @@ module _ (pattern first links : List ℕ) (start from : ℕ) (asked : CompareAt 
 
     pub compared_found : r ≡ false → EndsBy pattern links start from p
     compared_found e = record { compared = here; hit = λ t l c _. not-false _ (sym (tells t l c) ∙ e) }
-
-  pub compared_all : (p : ℕ) → length pattern ≤ p → Compared pattern links start from p
-      → EndsBy pattern links start from p
-  compared_all p h here = record { compared = here; hit = λ t l c d. absurd (over d) }
-    where
-      over : p < length pattern → ⊥
-      over d = omega arith
 
 -- ---- the flag by the count and the first end, by its two cases
 
@@ -136,8 +123,8 @@ module _ (pattern first : List ℕ) (own : List FirstEnd) (links : List ℕ) (wi
       let e : run.row + (top - run.row) ≡ top = omega (arith, asked.past) in
       sym (add-mul run.row (top - run.row) width) ∙ ap (λ (x : ℕ). x * width) e
 
-  -- a window into which the last one reaches has the pattern's own end where that lies in what agreed, and agrees as far
-  -- where it does not
+  -- a window into which the last one reaches has the pattern's own end where that lies in what agreed, and agrees as
+  -- far where it does not
   module _ (under : top * width < run.reached) where
     own_is : end_at own (top - run.row)
         ≡ first_end (λ p. get_or pattern p 0) (suffix (λ p. get_or pattern p 0) ((top - run.row) * width))
@@ -177,16 +164,6 @@ module _ (pattern first : List ℕ) (own : List FirstEnd) (links : List ℕ) (wi
 
   -- else it is compared from where it is known to agree
   module _ (h : run.reached - top * width ≤ end_at own (top - run.row)) where
-    pub onward_asks : CompareAt pattern first links (top * width) (run.reached - top * width)
-    onward_asks =
-        record {
-          some = asked.some;
-          places = asked.places;
-          room = asked.room;
-          small = asked.small;
-          within = omega (arith, rows_apart, asked.fits);
-        }
-
     pub window_onward : (end : ℕ) → EndsBy pattern links (top * width) (run.reached - top * width) end
         → WindowEnds pattern links width run top
         (record { run = record { row = top; reached = top * width + end }; end = end })

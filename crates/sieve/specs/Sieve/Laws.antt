@@ -2,8 +2,10 @@
 -- cells alike on one side only, say that a mismatch ends in it, since where none ends cells are alike on both sides
 -- or on none.
 -- Assumes nothing.
-use Rattle.std.specs.Prelude.{◌≡◌, refl, Bool, true, false, not, List, ℕ, ◌+◌, ◌*◌, ◌/◌, ◌%◌, ◌≤◌, ◌<◌, eqb, length, get_or}
-use Rattle.std.proofs.Common.{sym, ◌∙◌, ap, one-mul, zero-mul, add-mul, mul-le-mul_right, mod-lt, div-lt_iff_lt-mul, arith}
+use Rattle.std.specs.Prelude.{◌≡◌, refl, Bool, true, false, not, List, ℕ, ◌+◌, ◌*◌, ◌/◌, ◌%◌, ◌≤◌, ◌<◌, eqb, length}
+use Rattle.std.specs.Prelude.{get_or}
+use Rattle.std.proofs.Common.{sym, ◌∙◌, ap, one-mul, zero-mul, add-mul, mul-le-mul_right, mod-lt, div-lt_iff_lt-mul}
+use Rattle.std.proofs.Common.{arith}
 use Rattle.std.proofs.Math.Nat.{zero-div, zero-mod}
 use Rattle.std.proofs.Math.Bool.{beq}
 use Rattle.std.proofs.lemmas.Bool.{not-true}
@@ -90,7 +92,8 @@ module _ (text pattern : List ℕ) (s : Shape) (left top : ℕ) (asked : StripAs
     pub spoiler_differs : (a b : ℕ) → a ≡ get_or text (top * s.columns + left + x.cells.earlier) 0
         → b ≡ get_or text (top * s.columns + left + x.cells.later) 0 → not (beq (eqb a b) x.alike) ≡ true
         → Differs text pattern s left top
-    spoiler_differs a b ea eb apart = ends_unless (λ none. true_false (rw (same none) (itself x.alike)) (not-true _ apart))
+    spoiler_differs a b ea eb apart =
+        ends_unless (λ none. true_false (rw (same none) (itself x.alike)) (not-true _ apart))
       where
         at_earlier : w is.p ≡ a
         at_earlier = sym (cell_at is.p) ∙ rw (← is.earlier_is) (sym ea)
@@ -139,7 +142,8 @@ module _ (text pattern : List ℕ) (pairs : List Pair) (s : Shape) (left top : �
 
       -- where no mismatch ends all pairs are alike
       same : (length pattern
-          ≤ first_end (λ k. get_or pattern k 0) (suffix (strip_at text s.columns left s.width) (top * s.width)) (length pattern)) → (i : ℕ) → i < 8
+          ≤ first_end (λ k. get_or pattern k 0) (suffix (strip_at text s.columns left s.width) (top * s.width))
+          (length pattern)) → (i : ℕ) → i < 8
           → get_or text (top * s.columns + left + (get_or pairs i no_pair).earlier) 0
           ≡ get_or text (top * s.columns + left + (get_or pairs i no_pair).later) 0
       same none i h =

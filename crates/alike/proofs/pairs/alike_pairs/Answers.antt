@@ -1,5 +1,5 @@
--- `pairs::alike_pairs` meets its contract. The invariant: there are eight pairs of cells alike in the pattern, also before
--- any is found, since a cell is like itself.
+-- `pairs::alike_pairs` meets its contract. The invariant: there are eight pairs of cells alike in the pattern, also
+-- before any is found, since a cell is like itself.
 -- Assumes nothing.
 use Rattle.std.proofs.Common.{◌<◌, ℕ, ap, ◌∙◌, arith, get_or, length}
 use Rattle.cells.specs.Windows.{offset_of}

@@ -1,9 +1,8 @@
--- `pairs::pairs_alike` meets its contract. The invariant: what is added up is how many of the pairs passed are not alike;
--- none is exactly where every one is alike (`count-every`).
+-- `pairs::pairs_alike` meets its contract. The invariant: what is added up is how many of the pairs passed are not
+-- alike; none is exactly where every one is alike (`count-every`).
 -- Assumes nothing.
 use Rattle.std.proofs.Common.{◌≡◌, ◌+◌, ◌-◌, ◌<◌, ℕ, ap, ◌∙◌, not, arith, nat_eq, get_or, take, drop, true, false}
-use Rattle.std.proofs.Common.{length-take, length-drop}
-use Rattle.std.proofs.lemmas.List.{get_or-drop, get_or-take}
+use Rattle.std.proofs.Common.{length-take, length-drop, get_or-drop, get_or-take}
 use Rattle.theory.specs.Test.Laws.{eq_tested, is_true, is_false}
 use Rattle.theory.specs.Count.{count}
 use Rattle.theory.specs.Count.Laws.{count_le}

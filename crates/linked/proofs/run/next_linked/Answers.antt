@@ -1,5 +1,5 @@
--- `run::next_linked` meets its contract: one law for each way out, which are that the window inherits its end, and that it
--- is compared from where it is known to agree.
+-- `run::next_linked` meets its contract: one law for each way out, which are that the window inherits its end, and that
+-- it is compared from where it is known to agree.
 -- Assumes nothing.
 use Rattle.std.proofs.Common.{arith}
 use Rattle.linked.specs.Run.Laws.{window_inherits, window_onward}

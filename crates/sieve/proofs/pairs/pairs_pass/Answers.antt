@@ -1,4 +1,5 @@
--- `pairs::pairs_pass` meets its contract: a pair that is not alike says that a mismatch ends in the window (`pairs_differ`).
+-- `pairs::pairs_pass` meets its contract: a pair that is not alike says that a mismatch ends in the window
+-- (`pairs_differ`).
 -- Assumes nothing.
 use Rattle.std.proofs.Common.{◌∙◌, sym, arith}
 use Rattle.sieve.specs.Sieve.Laws.{pairs_inside, pairs_differ}

@@ -1,5 +1,5 @@
--- `spoilers::Spoiler::spoils` meets its contract: two cells alike on one side only say that a mismatch ends in the window
--- (`spoiler_differs`).
+-- `spoilers::Spoiler::spoils` meets its contract: two cells alike on one side only say that a mismatch ends in the
+-- window (`spoiler_differs`).
 -- Assumes nothing.
 use Rattle.std.proofs.Common.{refl}
 use Rattle.sieve.specs.Sieve.Laws.{spoiler_earlier_in, spoiler_later_in, spoiler_differs}
