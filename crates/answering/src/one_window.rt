@@ -11,8 +11,9 @@ use cells::windows::WindowPlace;
 use columns::columns::{match_columns, no_images};
 use mapping::bijections::Bijection;
 use matching::compare::{Verdict, WindowAnswer, first_end, mismatch_between};
+use placed::pattern::Pattern;
 use refusals::refusals::{Reason, Refusal};
-use rows::places::{first_places, no_positions};
+use rows::places::no_positions;
 use shapes::shapes::Shape;
 
 // The pattern compared with the window of its size.
@@ -26,7 +27,7 @@ fn compare(text: &[u8], v: WindowPlace, pattern: &[u8]) -> WindowAnswer
     let n = v.height * v.width;
     let mut first = no_positions();
     let mut last = no_positions();
-    first_places(pattern, &mut first);
+    pattern.first_places(&mut first);
     let end = first_end(text, v, pattern, &first, &mut last);
     if end.place < n {
         let bijection = Bijection::empty();

@@ -55,21 +55,18 @@ pub fn first_end(
     ensures { EndIs (cell_of_pattern pattern.now) (window_of text.now v) (cell_count v) result.place
         result.earlier }
 {
-    let height = v.height;
     let mut from = 0;
-    let mut i = 0;
-    while i < height {
+    for i in 0..v.height {
         let row = WindowView { text, place: v }.row_cells(i);
-        let j = part_end(pattern, row, first, last, 0, from);
+        let j = part_end(pattern, row, 0, v.width, first, last, 0, from);
         if j < v.width {
-            let x = row[j] as usize;
+            let x = usize::from(row[j]);
             return Far {
                 place: from + j,
                 earlier: earlier_by(pattern, first, 0, last[x], from + j),
             };
         }
         from += v.width;
-        i += 1;
     }
     Far {
         place: from,

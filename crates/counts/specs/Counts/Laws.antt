@@ -183,6 +183,9 @@ pub count_at : (text : List ℕ) (s : Shape) (top left : ℕ) (o : Occurrences) 
     → o.size ≡ count_in text s (top * across s + left)
 count_at text s top left o h k = k.size_is ∙ sym (window_count_lem text s.columns s.height s.width top left h)
 
+pub windows_small : (s : Shape) (cells : ℕ) → ShapeOf s cells → down s * across s ≤ 255 * 255
+windows_small s cells v = product_le (down s) (across s) 255 255 (omega arith) (omega arith)
+
 -- every window lies in one strip
 pub windows_covered : (s : Shape) → 0 < across s
     → Covers (λ left top. top * across s + left) (across s) (down s) (down s * across s)

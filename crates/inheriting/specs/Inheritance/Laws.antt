@@ -114,14 +114,14 @@ module _ (text pattern : List ℕ) (v : WindowPlace) (above k end : ℕ) (some :
 module _ (text pattern : List ℕ) (columns height width : ℕ) (own : List FirstEnd)
     (tops : List (Option ℕ)) (here : Above text pattern columns height width own tops) where
   -- the own ends are made
-  pub above_made : (made : List ℕ) → OwnEndsMade pattern height width made
+  pub above_made : (made : List FirstEnd) → OwnEndsMade pattern height width made
       → Above text pattern columns height width made tops
-  above_made made own =
+  above_made made ends =
       record {
         sides = here.sides;
         narrow = here.narrow;
         tops_are = here.tops_are;
-        owned = record { long = own.long; made = λ _. own };
+        owned = record { long = ends.long; made = λ _. ends };
       }
 
   -- one more window follows
