@@ -1,5 +1,5 @@
--- Laws of blocks: the place that is shown depends on the position divided by the scale and on nothing else of it, so the
--- positions with one quotient show one cell, and in a row the next quotient the next cell.
+-- Laws of blocks: the place that is shown depends on the position divided by the scale and on nothing else of it, so
+-- the positions with one quotient show one cell, and in a row the next quotient the next cell.
 -- Assumes nothing.
 use Rattle.std.specs.Prelude.{◌≡◌, refl, Bool, List, ℕ, ◌+◌, ◌-◌, ◌*◌, ◌/◌, ◌%◌, ◌≤◌, ◌<◌, length, get_or}
 use Rattle.std.proofs.Common.{sym, ◌∙◌, ap, subst, add-zero, zero-mul, add-mul, suc-mul, mul_comm, mul_assoc, add-one}

@@ -1,5 +1,5 @@
--- First places in an enlargement, from those in the pattern: an enlargement shows every cell of the pattern and no other
--- symbol, and a cell first at its corner.
+-- First places in an enlargement, from those in the pattern: an enlargement shows every cell of the pattern and no
+-- other symbol, and a cell first at its corner.
 -- Assumes nothing.
 use Rattle.std.specs.Prelude.{◌≡◌, List, ℕ, ◌+◌, ◌*◌, ◌/◌, ◌%◌, ◌≤◌, ◌<◌, length, get_or}
 use Rattle.std.proofs.Common.{sym, ◌∙◌, ap, mul-le-mul, mul-le-mul_left, mul-le-mul_right, one-mul, mul-one, le_trans}

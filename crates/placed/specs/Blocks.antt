@@ -26,8 +26,8 @@ pub record Shown (pattern l : List ℕ) (place p n : ℕ) : Type 0 where
   pub shows : get_or pattern place 0 ≡ get_or l p 0
   pub alike : AlikeFrom l p n
 
--- what follows in a row of an enlargement, from p on up to stop, behind a block that shows the pattern's cell at a place:
--- block after block, each of as many positions as the scale, the pattern's next cells
+-- what follows in a row of an enlargement, from p on up to stop, behind a block that shows the pattern's cell at a
+-- place: block after block, each of as many positions as the scale, the pattern's next cells
 abbrev pub Follows : List ℕ → List ℕ → ℕ → ℕ → ℕ → ℕ → Type 0
 Follows pattern l scale place p stop =
     (n : ℕ) → p + n * scale < stop → Shown pattern l (place + 1 + n) (p + n * scale) scale

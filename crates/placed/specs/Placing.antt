@@ -1,5 +1,5 @@
--- An enlargement of a pattern: each of its cells stands k by k times. Everything that is compared is said of the list of
--- its cells (`enlarged`), and the code reads them off the pattern.
+-- An enlargement of a pattern: each of its cells stands k by k times. Everything that is compared is said of the list
+-- of its cells (`enlarged`), and the code reads them off the pattern.
 -- Assumes nothing.
 pub mod Laws
 pub mod Places

@@ -126,8 +126,8 @@ impl<'a> Pattern for Enlarged<'a> {
         most
     }
 
-    // First places in the pattern become first places in the enlargement: the corner of the cells that show a place comes
-    // before all that show it or a later one. So an enlargement is not walked through.
+    // First places in the pattern become first places in the enlargement: the corner of the cells that show a place
+    // comes before all that show it or a later one. So an enlargement is not walked through.
     fn first_places(self, first: &mut [usize; 256]) {
         self.own.first_places(first);
         for p in first.iter_mut() {

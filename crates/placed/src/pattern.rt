@@ -1,5 +1,5 @@
-// A pattern as it lies when it is compared: as it is, or enlarged (enlarged.rt). What the search knows of its pattern it
-// reads here.
+// A pattern as it lies when it is compared: as it is, or enlarged (enlarged.rt). What the search knows of its pattern
+// it reads here.
 ghost use Rattle.std.specs.Prelude.{◌≡◌, List, ℕ, ◌+◌, ◌≤◌, ◌<◌, length, get_or};
 ghost use Rattle.prefixes.specs.State.{FirstPlaces};
 ghost use Rattle.placed.specs.Blocks.{BlockAt, Repeats};

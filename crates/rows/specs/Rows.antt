@@ -7,8 +7,8 @@ use Rattle.prefixes.specs.State.{FirstPlaces, Swept}
 use Rattle.theory.specs.Match.{ends}
 use Rattle.theory.specs.Older.{Older}
 
--- what the code asks of a part, n cells of the text from place begin on, that begins at position from of a window, where
--- the window begins at start of its strip
+-- what the code asks of a part, n cells of the text from place begin on, that begins at position from of a window,
+-- where the window begins at start of its strip
 pub record PartAt (pattern text : List ℕ) (begin n : ℕ) (first last : List ℕ) (start from : ℕ) : Type 0 where
   pub places : FirstPlaces (λ k. get_or pattern k 0) (length pattern) first
   pub older : Older (start + from + 1) last

@@ -25,11 +25,11 @@ fn agrees_at<P: Pattern>(
     first[usize::from(a)] == p
 }
 
-// The first cell of a part of a row at which a mismatch ends, or the part's length where none does. The part is n cells of
-// the text from place begin on. The window begins at start of its strip, and the part at position from of the window. The
-// table has the last places before the part, and afterwards those of the cells that agree as well. Only the first of the
-// positions that show one cell of the pattern is held against the tables: behind it none ends exactly as long as the
-// text's cells are alike too.
+// The first cell of a part of a row at which a mismatch ends, or the part's length where none does. The part is n
+// cells of the text from place begin on. The window begins at start of its strip, and the part at position from of
+// the window. The table has the last places before the part, and afterwards those of the cells that agree as well.
+// Only the first of the positions that show one cell of the pattern is held against the tables: behind it none ends
+// exactly as long as the text's cells are alike too.
 #[inline]
 pub fn part_end<P: Pattern, T: Pattern>(
     pattern: P,

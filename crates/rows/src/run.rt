@@ -1,7 +1,7 @@
 // What a run down a strip hands from window to window.
 
-// Where a run down a strip stands: the last window that was compared begins at row, and agrees up to place reached of the
-// strip.
+// Where a run down a strip stands: the last window that was compared begins at row, and agrees up to place reached of
+// the strip.
 #[derive(Clone, Copy)]
 pub struct Run {
     pub row: usize,

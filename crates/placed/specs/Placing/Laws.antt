@@ -1,9 +1,10 @@
--- Laws of an enlargement: that a quotient is a product's upper half, that the code's place of a position is the right one
--- and lies in the pattern, and that bytes stay bytes. A quotient as a product is Granlund and Montgomery's theorem
--- (1994): the product exceeds a multiple by too little to reach the next.
+-- Laws of an enlargement: that a quotient is a product's upper half, that the code's place of a position is the right
+-- one and lies in the pattern, and that bytes stay bytes. A quotient as a product is Granlund and Montgomery's
+-- theorem (1994): the product exceeds a multiple by too little to reach the next.
 -- Assumes nothing.
 use Rattle.std.specs.Prelude.{◌≡◌, Bool, List, ℕ, suc, ◌+◌, ◌-◌, ◌*◌, ◌/◌, ◌%◌, ◌≤◌, ◌<◌, length, get_or}
-use Rattle.std.proofs.Common.{sym, ◌∙◌, ap, subst, le_refl, le_trans, le_of_eq, lt_of_lt_of_le, lt_of_le_of_lt, lt-suc_self}
+use Rattle.std.proofs.Common.{sym, ◌∙◌, ap, subst, le_refl, le_trans, le_of_eq, lt_of_lt_of_le, lt_of_le_of_lt}
+use Rattle.std.proofs.Common.{lt-suc_self}
 use Rattle.std.proofs.Common.{add-lt-add_of_le_of_lt, mul_right_comm, mul_assoc, mul_comm, mul-add, add-mul, suc-mul}
 use Rattle.std.proofs.Common.{mul-le-mul, mul-le-mul_left, mul-le-mul_right, lt_of_mul-lt-mul_right, div-mul-le_self}
 use Rattle.std.proofs.Common.{div-lt_iff_lt-mul, div-add-mod', mod-lt, div-le_self, add-one, arith}

@@ -2,7 +2,8 @@
 -- are small, and that the state goes on over a part that agrees, and ends at one that does not.
 -- Assumes nothing.
 use Rattle.std.specs.Prelude.{◌≡◌, refl, List, ℕ, ◌+◌, ◌-◌, ◌*◌, ◌≤◌, ◌<◌, length, get_or}
-use Rattle.std.proofs.Common.{sym, ◌∙◌, ap, add-zero, zero-add, zero-mul, add-mul, suc-mul, mul-le-mul_right, add-one, arith}
+use Rattle.std.proofs.Common.{sym, ◌∙◌, ap, add-zero, zero-add, zero-mul, add-mul, suc-mul, mul-le-mul_right, add-one}
+use Rattle.std.proofs.Common.{arith}
 use Rattle.std.proofs.Math.Path.{fun_ext}
 use Rattle.cells.specs.Windows.{window_at}
 use Rattle.cells.specs.Windows.Laws.{window_cell, window_strip}
@@ -63,16 +64,6 @@ module _ (text : List ℕ) (s : Strip) (pattern first last₀ : List ℕ) (top h
         product_le s.rows s.columns 255 255
             (omega (arith, asked.strip)) (omega (arith, asked.strip)),
       )
-
-  -- the comparison does not begin below the window
-  pub line_le : line₀ ≤ top + height
-  line_le = let over : top + height + 1 ≤ line₀ → ⊥ = too_low in omega arith
-    where
-      row_more : (top + height + 1) * s.width ≡ (top + height) * s.width + s.width
-      row_more = ap (λ (x : ℕ). x * s.width) (add-one (top + height)) ∙ suc-mul (top + height) s.width
-
-      too_low : top + height + 1 ≤ line₀ → ⊥
-      too_low h = omega (arith, mul-le-mul_right s.width h, row_more, wide, asked.within)
 
   pub parts_all : (row j : ℕ) (last : List ℕ) → top + height ≤ row → PartsTo text s pattern top height row j last
       → Reached text s pattern top height (record { place = (top + height) * s.width; earlier = 0 }) last

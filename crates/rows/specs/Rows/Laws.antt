@@ -1,7 +1,8 @@
 -- Laws of a part of a row: no cell passed, one more, a mismatch found, a run of alike cells, the part passed. The part
 -- knows no strip: what it says holds of every strip that it lies in.
 -- Assumes nothing.
-use Rattle.std.specs.Prelude.{◌≡◌, List, ℕ, zero, suc, ◌+◌, ◌-◌, ◌≤◌, ◌<◌, length, get_or, set, eqb, Bool, true, false, not}
+use Rattle.std.specs.Prelude.{◌≡◌, List, ℕ, zero, suc, ◌+◌, ◌-◌, ◌≤◌, ◌<◌, length, get_or, set, eqb, Bool, true, false}
+use Rattle.std.specs.Prelude.{not}
 use Rattle.std.proofs.Common.{sym, ◌∙◌, ap, add-zero, arith, set-set, eq-eqb, ne_eqb}
 use Rattle.std.proofs.lemmas.Bool.{not-true, not-false}
 use Rattle.theory.specs.Test.{Tested, holds, fails}
@@ -24,14 +25,6 @@ module _ (pattern text : List ℕ) (begin n : ℕ) (first last₀ : List ℕ) (s
 
   abbrev Ends : ℕ → List ℕ → Type 0
   Ends r last = EndsPart pattern text begin n last₀ start from r last
-
-  pub part_none : PassedPart pattern text begin n last₀ start from 0 last₀
-  part_none =
-      record {
-        within = omega arith;
-        older = rw add-zero asked.older;
-        swept = λ t s. rw add-zero s.swept;
-      }
 
   module _ (j : ℕ) (last : List ℕ) (inside : j < n) (here : PassedPart pattern text begin n last₀ start from j last)
     where

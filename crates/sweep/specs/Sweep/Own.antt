@@ -2,8 +2,10 @@
 -- of a window of it, from row k on, is the pattern's own end k. Row 0 is the pattern, which has no mismatch with
 -- itself.
 -- Assumes nothing.
-use Rattle.std.specs.Prelude.{◌≡◌, refl, List, ℕ, ◌+◌, ◌-◌, ◌*◌, ◌/◌, ◌%◌, ◌≤◌, ◌<◌, zero, suc, length, get_or, set, replicate, min, Bool}
-use Rattle.std.proofs.Common.{sym, ◌∙◌, ap, add-mul, mod-lt, div-add-mod', zero-mul, one-mul, mul-le-mul_right, arith, length-set, get_or-set_same, get_or-set_other}
+use Rattle.std.specs.Prelude.{◌≡◌, refl, List, ℕ, ◌+◌, ◌-◌, ◌*◌, ◌/◌, ◌%◌, ◌≤◌, ◌<◌, zero, suc, length, get_or, set}
+use Rattle.std.specs.Prelude.{replicate, Bool}
+use Rattle.std.proofs.Common.{sym, ◌∙◌, ap, add-mul, mod-lt, div-add-mod', zero-mul, one-mul, mul-le-mul_right, arith}
+use Rattle.std.proofs.Common.{length-set, get_or-set_same, get_or-set_other}
 use Rattle.std.proofs.Math.Path.{fun_ext}
 use Rattle.grid.specs.Strips.{StripOf, strip_symbols}
 use Rattle.prefixes.specs.Prefixes.{suffix}
@@ -180,34 +182,7 @@ module _ (pattern : List ℕ) (height width rows : ℕ) (sides : SidesOf pattern
             rw (get_or-set_other own top k (record { end = r.end; earlier = r.earlier })
             (record { end = 0; earlier = 0 }) d) (here.owns.each k (omega arith))
 
-  pub own_all : (last : List ℕ) (own : List FirstEnd) (run : Run) (top n : ℕ) → n ≤ top
-      → OwnRun pattern height width rows last own run top → OwnMismatches pattern width (rows * width) n own
-  own_all last own run top n h here =
-      record { long = here.owns.long; whole = here.owns.whole; each = λ k b. here.owns.each k (omega arith) }
-
--- so many positions lie in so many rows and one more
-pub rows_cover : (x y width : ℕ) → 0 < width → y ≤ (x + y) / width * width + width
-rows_cover x y width h = omega (arith, div-add-mod' (x + y) width, mod-lt (x + y) h)
-
 -- ---- as far as they were made
-
--- own ends of so many rows, for strips of so many windows
-pub own_made : (pattern : List ℕ) (width rows windows : ℕ) (own : List FirstEnd) → rows * width ≤ length pattern
-    → OwnMismatches pattern width (rows * width) (min rows windows) own → OwnSoFar pattern width windows own
-own_made pattern width rows windows own few h =
-    record {
-      long = h.long;
-      within = omega (arith, h.whole);
-      each = λ k l b. rw h.whole (h.each k (both k (inside k (rw h.whole at b)) l));
-    }
-  where
-    inside : (k : ℕ) → k * width < rows * width → k < rows
-    inside k b =
-        let over : rows ≤ k → ⊥ = λ x. omega (arith, mul-le-mul_right width x) in
-        omega arith
-
-    both : (k : ℕ) → k < rows → k < windows → k < min rows windows
-    both k a b = omega arith
 
 -- none was made yet
 pub own_unmade : (pattern : List ℕ) (width windows : ℕ) (own : List FirstEnd)

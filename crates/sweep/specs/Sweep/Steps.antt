@@ -9,31 +9,11 @@ use Rattle.grid.specs.declared.strips.Strip.{Strip}
 use Rattle.prefixes.specs.Prefixes.Inheritance.{inherited_end}
 use Rattle.prefixes.specs.State.{Swept}
 use Rattle.prefixes.specs.State.Laws.{swept_past, swept_lower}
-use Rattle.reach.specs.Reach.{ReachAt, Reached}
+use Rattle.reach.specs.Reach.{ReachAt}
 use Rattle.sweep.specs.declared.steps.Step.{Step}
 use Rattle.rows.specs.declared.run.Run.{Run}
 use Rattle.rows.specs.declared.run.FirstEnd.{FirstEnd}
 use Rattle.sweep.specs.Sweep.{OwnKnown, NextAt, NextIs, own_at}
-
--- a window that was compared
-module _ (text : List ℕ) (s : Strip) (pattern first last₀ : List ℕ) (top height line j : ℕ)
-    (asked : ReachAt text s pattern first last₀ top height line j)
-    (e earlier : ℕ) (last : List ℕ) (got : Reached text s pattern top height (record { place = e; earlier = earlier })
-    last) where
-  pub next_compared : NextIs text s pattern top top height
-      (record { run = record { row = top; reached = e }; end = e - top * s.width; earlier = earlier }) last
-  next_compared =
-      record {
-        since = omega arith;
-        at_run =
-            record {
-              past = omega arith;
-              fits = omega (arith, got.within, add-mul top height s.width, asked.cells);
-              within = got.within;
-              swept = got.swept;
-            };
-        end = got.end;
-      }
 
 -- and was said to be below another one
 pub next_since : (text : List ℕ) (s : Strip) (pattern : List ℕ) (row top height : ℕ) (r : Step) (last : List ℕ)

@@ -1,5 +1,5 @@
--- `reach::reach` meets its contract. The invariant: the parts of rows passed agree, and the next one begins in the column
--- that the local says; what `part_end` ensures of a part, it ensures of the strip that the part lies in.
+-- `reach::reach` meets its contract. The invariant: the parts of rows passed agree, and the next one begins in the
+-- column that the local says; what `part_end` ensures of a part, it ensures of the strip that the part lies in.
 -- Assumes nothing.
 use Rattle.std.proofs.Common.{◌∙◌, arith}
 use Rattle.reach.specs.Reach.Laws.{parts_all, part_at, parts_more, found_inside, found_near, parts_found}

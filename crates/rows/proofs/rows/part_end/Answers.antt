@@ -1,6 +1,6 @@
--- `rows::part_end` meets its contract. The invariant: the cells before j agree, whatever the strip, and the next block is
--- found by a step; the test of cell j is the step of the comparison, so it tells whether a mismatch ends there, and the run
--- behind it whether one ends in the rest of the block.
+-- `rows::part_end` meets its contract. The invariant: the cells before j agree, whatever the strip, and the next
+-- block is found by a step; the test of cell j is the step of the comparison, so it tells whether a mismatch ends
+-- there, and the run behind it whether one ends in the rest of the block.
 -- Assumes nothing.
 use Rattle.std.proofs.Common.{◌≡◌, ◌+◌, ◌<◌, ◌∙◌, refl, get_or, set, add_assoc, arith}
 use Rattle.rows.specs.Rows.{PassedPart}

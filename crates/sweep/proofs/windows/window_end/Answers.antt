@@ -1,5 +1,5 @@
--- `windows::window_end` meets its contract: nothing of the window was read and it is compared, or the own ends are ready
--- and `next_end` asks for no more.
+-- `windows::window_end` meets its contract: nothing of the window was read and it is compared, or the own ends are
+-- ready and `next_end` asks for no more.
 -- Assumes nothing.
 use Rattle.sweep.specs.Sweep.Runs.{sweep_with, run_asks}
 use Rattle.sweep.proofs.windows.window_end.Goals as goal

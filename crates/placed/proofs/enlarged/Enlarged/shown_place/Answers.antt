@@ -1,5 +1,5 @@
--- `Enlarged::shown_place` meets its contract: the three products are quotients (`quotient_is`), and what is made of them
--- is the place of the cell that is shown (`place_is`).
+-- `Enlarged::shown_place` meets its contract: the three products are quotients (`quotient_is`), and what is made of
+-- them is the place of the cell that is shown (`place_is`).
 -- Assumes nothing.
 use Rattle.std.proofs.Common.{◌-◌, ◌*◌, ◌≤◌, arith}
 use Rattle.placed.specs.Placing.Laws.{inverse_le, shown_le, place_sub, place_is, quotient_small}

@@ -1,5 +1,5 @@
--- `Enlarged` as a pattern, `block_at`: all positions of a row with one quotient by the scale show one cell, and the next
--- quotient the next.
+-- `Enlarged` as a pattern, `block_at`: all positions of a row with one quotient by the scale show one cell, and the
+-- next quotient the next.
 -- Assumes nothing.
 use Rattle.std.proofs.Common.{◌≡◌, ℕ, ◌+◌, ◌*◌, ◌/◌, ◌≤◌, ◌<◌, ◌∙◌, ap, refl, arith}
 use Rattle.placed.specs.Placing.Laws.{enlarged_long, place_inside, quotient_small, inverse_le, block_is, row_is}
