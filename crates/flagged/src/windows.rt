@@ -71,7 +71,8 @@ pub fn flag_all<P: Pattern>(
         (working links.old counts.old flags.old) }
     ensures own_so_far { OwnSoFar (P.cells pattern) s.width (down s) own.new }
 {
-    distinct_counts(text, s.rows, s.columns, s.height, s.width, counts);
+    // The sides are sound and there is room, so nothing is refused.
+    let _ = distinct_counts(text, s.rows, s.columns, s.height, s.width, counts);
     let pairs = alike_pairs(pattern, first, s.columns, s.width);
     flag_windows(
         text, pattern, first, own, &pairs, symbols, s, counts, links, flags,

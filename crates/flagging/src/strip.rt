@@ -79,7 +79,8 @@ fn flag_linked<P: Pattern>(
     ensures rest_kept { RestKept (s.rows * s.width) links.old links.new }
     ensures own_so_far { OwnSoFar (P.cells pattern) s.width (down s) own.new }
 {
-    strip_links(text, s.rows, s.columns, s.width, left, links);
+    // The sides are sound and there is room, so nothing is refused.
+    let _ = strip_links(text, s.rows, s.columns, s.width, left, links);
     let windows = s.rows + 1 - s.height;
     lengthen_ends(
         pattern,

@@ -174,7 +174,7 @@ tracks_start text s top left o k = rw (cells_none text s.columns left s.width to
 -- ---- the buffer, window by window
 
 -- a window's place lies in the buffer
-place_lt : (across down top left : ℕ) → left < across → top < down → top * across + left < down * across
+pub place_lt : (across down top left : ℕ) → left < across → top < down → top * across + left < down * across
 place_lt across down top left h k = omega (arith, mul-le-mul_right across k, suc-mul top across)
 
 -- the count of the window that the occurrences track, at its place
