@@ -6,13 +6,13 @@ use Prim.Native.Nat.{ℕ}
 use lib.ListN.{set}
 use borrow.Author.Rules.{rules}
 use Rattle.rules.specs.Check.{checked_said}
-use Rattle.rules.specs.declared.checked.Checked.{Checked}
+use Rattle.rules.specs.Check.{Checked}
 use Rattle.returned.specs.Returned.{values_by}
 use Rattle.returned.specs.Returned.Laws.{value_stored}
 use Rattle.returned.proofs.checking.checked_totals.Goals as goal
 
-pub returns-in-Kept : goal.returns-in-Kept
-returns-in-Kept c = sym (ap (λ (r : Checked). values_by 0 (checked_said r) c.args.old) c.in-Kept.is)
+pub returns-in-kept : goal.returns-in-kept
+returns-in-kept c = sym (ap (λ (r : Checked). values_by 0 (checked_said r) c.args.old) c.in-kept.is)
 
 pub returns-in-Refused : goal.returns-in-Refused
 returns-in-Refused c =
