@@ -17,8 +17,7 @@ use Rattle.matching.specs.Compare.{pattern_of, window_in, positions, CornerIn, t
 use Rattle.matching.specs.declared.compare.WindowAnswer.{WindowAnswer}
 use Rattle.listing.specs.declared.records.Record.{Record}
 use Rattle.entries.specs.Listing.{verdict_records}
-use Rattle.searched.specs.Search.{Lent, done, search_of, list_done, list_of}
-use Rattle.searched.specs.declared.answer.Searched.TheVariants.{Listed}
+use Rattle.searched.specs.Search.{totalling, Lent, done, search_of, list_done, list_of}
 use Rattle.rules.specs.Check.{checked_said, check_of}
 use Rattle.rules.specs.Check.{kept}
 use Rattle.theory.specs.Test.{pick, both}
@@ -143,12 +142,12 @@ ListsAnswers q entry =
 abbrev pub OfTheSearch : Type 0
 OfTheSearch =
     (q : Question) (l after : Lent) (found refused size : ℕ)
-    → done (Listed found refused size) after ≡ search_of q l → Bytes q.pattern.cells
+    → done (totalling found refused size) after ≡ search_of q l → Bytes q.pattern.cells
     → (entry : ℕ → ℕ → List Record) × Shows q (take size after.listing) found refused entry × ListsAnswers q entry
 
 -- of every listing that List writes, whoever made the flags that it was lent: the same
 abbrev pub OfTheList : Type 0
 OfTheList =
     (q : Question) (flags old after : List ℕ) (found refused size : ℕ)
-    → list_done (Listed found refused size) after ≡ list_of q flags old → Bytes q.pattern.cells
+    → list_done (totalling found refused size) after ≡ list_of q flags old → Bytes q.pattern.cells
     → (entry : ℕ → ℕ → List Record) × Shows q (take size after) found refused entry × ListsAnswers q entry

@@ -20,7 +20,6 @@ use Rattle.cells.specs.Windows.Laws.{window_at_lem}
 use Rattle.occurrences.specs.Distinct.{contains}
 use Rattle.occurrences.specs.Distinct.Sets.{contains_none, contains_cons}
 use Rattle.refusals.specs.Said.{filled, accepts, over_front}
-use Rattle.refusals.specs.declared.refusals.Outcome.TheVariants.{Accepted}
 use Rattle.grid.specs.Strips.{links_of, strip_from}
 use Rattle.counts.specs.Counts.{counts_of}
 use Rattle.counts.specs.Examples.{example_links, example_counts}

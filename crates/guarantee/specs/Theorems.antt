@@ -19,10 +19,9 @@ use Rattle.matching.specs.Questions.{answer_at}
 use Rattle.entries.specs.Listing.{image_at, entry_of_window, found_in, refused_in, search_records, search_listing}
 use Rattle.entries.specs.Listing.{verdict_records}
 use Rattle.listing.specs.declared.records.Record.{Record}
-use Rattle.searched.specs.Search.{Lent, done, search_of, list_done, list_of}
+use Rattle.searched.specs.Search.{totalling, Lent, done, search_of, list_done, list_of}
 use Rattle.searched.specs.Search.Writes.{Writes, writes_bytes, searched_writes, listed_writes}
 use Rattle.searched.specs.Theorems.{lists_answer}
-use Rattle.searched.specs.declared.answer.Searched.TheVariants.{Listed}
 use Rattle.rules.specs.Check.{checked_said, check_of}
 use Rattle.rules.specs.Rules.{TrueOf, Entries, records_to, Keeps}
 use Rattle.rules.proofs.Theorems.{accepts_all, accepts_only}
@@ -120,7 +119,7 @@ demand_3 = (checked, searched, listed)
 
 -- what the search writes, the check accepts, with the same counts
 pub search_then_check : (q : Question) (l after : Lent) (found refused size : ℕ)
-    → done (Listed found refused size) after ≡ search_of q l → Bytes q.pattern.cells
+    → done (totalling found refused size) after ≡ search_of q l → Bytes q.pattern.cells
     → (r : Checked) → checked_said r ≡ check_of q (take size after.listing) → r ≡ kept found refused
 search_then_check q l after found refused size searches bytes r checks =
     accepts_all q (take size after.listing) r checks bytes found refused (
@@ -131,7 +130,7 @@ search_then_check q l after found refused size searches bytes r checks =
 
 -- and what List writes
 pub list_then_check : (q : Question) (flags old after : List ℕ) (found refused size : ℕ)
-    → list_done (Listed found refused size) after ≡ list_of q flags old → Bytes q.pattern.cells
+    → list_done (totalling found refused size) after ≡ list_of q flags old → Bytes q.pattern.cells
     → (r : Checked) → checked_said r ≡ check_of q (take size after) → r ≡ kept found refused
 list_then_check q flags old after found refused size lists bytes r checks =
     accepts_all q (take size after) r checks bytes found refused (
@@ -153,7 +152,7 @@ checked_columns q listing found refused checks bytes row column c =
     bytes.1
 
 pub searched_columns : (q : Question) (l after : Lent) (found refused size : ℕ)
-    (searches : done (Listed found refused size) after ≡ search_of q l)
+    (searches : done (totalling found refused size) after ≡ search_of q l)
     (bytes : Bytes q.text.cells × Bytes q.pattern.cells)
     (row column : ℕ) → CornerIn q row column
     → (times_found (records_of q (demand_3.1 q l after found refused size searches bytes.1).0 found refused) row column
@@ -164,7 +163,7 @@ searched_columns q l after found refused size searches bytes row column c =
     found_columns q (take size after.listing) found refused (d.0, d.1) row column c bytes.0 bytes.1
 
 pub listed_columns : (q : Question) (flags old after : List ℕ) (found refused size : ℕ)
-    (lists : list_done (Listed found refused size) after ≡ list_of q flags old)
+    (lists : list_done (totalling found refused size) after ≡ list_of q flags old)
     (bytes : Bytes q.text.cells × Bytes q.pattern.cells)
     (row column : ℕ) → CornerIn q row column
     → (times_found (records_of q (demand_3.2 q flags old after found refused size lists bytes.1).0 found refused) row column

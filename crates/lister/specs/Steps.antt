@@ -1,7 +1,7 @@
 -- What List says and leaves, refusal by refusal: before the flags are looked at, by 16, by 11; and where there is room,
 -- the listing.
 -- Assumes nothing.
-use Rattle.std.specs.Prelude.{◌≡◌, true, List, [], ◌∷◌, ℕ, ◌*◌, ◌≤◌, leb, length}
+use Rattle.std.specs.Prelude.{Result, Err, ⊤, ◌≡◌, true, List, [], ◌∷◌, ℕ, ◌*◌, ◌≤◌, leb, length}
 use Rattle.std.proofs.Math.Path.{refl, ap}
 use Rattle.std.proofs.Common.{sym, ◌∙◌}
 use Rattle.theory.specs.Test.Laws.{le_tested, says_true}
@@ -9,8 +9,6 @@ use Rattle.refusals.specs.Refusals.{number_of, values_of}
 use Rattle.refusals.specs.Said.{Said, accepts, ◌then◌, check, check_with, over_front, filled_by, outcome_said}
 use Rattle.refusals.specs.Said.Laws.{check_true, not_accepted}
 use Rattle.refusals.specs.declared.refusals.Refusal.{Refusal}
-use Rattle.refusals.specs.declared.refusals.Outcome.{Outcome}
-use Rattle.refusals.specs.declared.refusals.Outcome.TheVariants.{Accepted, Refused as RefusedOutcome}
 use Rattle.shapes.specs.Questions.{Question, Posed, asked, windows_of}
 use Rattle.shapes.specs.Shapes.{across, down}
 use Rattle.shapes.specs.declared.shapes.Shape.{Shape}
@@ -23,20 +21,19 @@ use Rattle.passes.specs.Windows.{Flagged}
 use Rattle.rooms.specs.Rooms.{flags_room_said}
 use Rattle.totals.specs.Totalled.{Totalled, totalled}
 use Rattle.totals.specs.declared.totals.Totals.{Totals}
-use Rattle.searched.specs.Search.{listed_said, list_said, list_done, list_of}
-use Rattle.searched.specs.declared.answer.Searched.TheVariants.{Listed, Refused}
+use Rattle.searched.specs.Search.{totalling, listed_said, list_said, list_done, list_of}
 
 -- What the inner functions' contracts cite.
 
 -- flags that were judged, and totals: where nothing is refused the flags are those of all windows, and the totals are
 -- theirs
-pub record Trusted (text pattern : List ℕ) (s : Shape) (judged : Outcome) (flags : List ℕ) (t : Totals) : Type 0 where
+pub record Trusted (text pattern : List ℕ) (s : Shape) (judged : Result ⊤ Refusal) (flags : List ℕ) (t : Totals) : Type 0 where
   pub flagged : judged ≡ Accepted → Flagged text pattern s flags
   pub totalled : judged ≡ Accepted → Totalled text pattern s t.found t.refused t.length
 
 -- ---- what was judged, then 11, then the listing
 
-module _ (text pattern : List ℕ) (s : Shape) (judged : Outcome) (flags : List ℕ) (t : Totals)
+module _ (text pattern : List ℕ) (s : Shape) (judged : Result ⊤ Refusal) (flags : List ℕ) (t : Totals)
     (trust : Trusted text pattern s judged flags t) (listing : List ℕ) (outcome : Outcome)
     (chain : outcome_said outcome
     ≡ outcome_said judged then check_with (leb t.length (length listing)) 11 (t.length ∷ [])) where
@@ -47,7 +44,7 @@ module _ (text pattern : List ℕ) (s : Shape) (judged : Outcome) (flags : List 
   pub passed : outcome ≡ Accepted → (judged ≡ Accepted) × (t.length ≤ length listing)
   passed e = go judged refl (sym chain ∙ ap outcome_said e)
     where
-      go : (o : Outcome) → judged ≡ o
+      go : (o : Result ⊤ Refusal) → judged ≡ o
           → outcome_said o then check_with (leb t.length (length listing)) 11 (t.length ∷ []) ≡ accepts []
           → (judged ≡ Accepted) × (t.length ≤ length listing)
       go Accepted d c = (d, says_true (le_tested t.length (length listing)) (check_true _ 11 (t.length ∷ []) [] c))
@@ -59,7 +56,7 @@ module _ (text pattern : List ℕ) (s : Shape) (judged : Outcome) (flags : List 
   unfolding listed_said
   said_is = go judged refl ∙ ap (λ (a : Said). a then accepts (found_in q ∷ refused_in q ∷ needed_length q ∷ [])) (sym chain)
     where
-      go : (o : Outcome) → judged ≡ o
+      go : (o : Result ⊤ Refusal) → judged ≡ o
           → outcome_said judged then listed_said q (length listing)
           ≡ (outcome_said judged then check_with (leb t.length (length listing)) 11 (t.length ∷ []))
           then accepts (found_in q ∷ refused_in q ∷ needed_length q ∷ [])
@@ -74,7 +71,7 @@ module _ (text pattern : List ℕ) (s : Shape) (judged : Outcome) (flags : List 
 
   -- or written
   pub listing_written : outcome ≡ Accepted → (after : List ℕ) → after ≡ over_front (search_listing q) listing
-      → list_done (Listed t.found t.refused t.length) after
+      → list_done (totalling t.found t.refused t.length) after
       ≡ filled_by (outcome_said judged then listed_said q (length listing)) (search_listing q) listing
   listing_written e after w =
       let z = trust.totalled (passed e).0 in
@@ -95,7 +92,7 @@ flags_flagged text pattern s flags p room e =
     }
 
 -- an outcome that says 16 where they are not
-pub flags_trusted : (text pattern : List ℕ) (s : Shape) (judged : Outcome) (flags : List ℕ) (t : Totals)
+pub flags_trusted : (text pattern : List ℕ) (s : Shape) (judged : Result ⊤ Refusal) (flags : List ℕ) (t : Totals)
     → Posed (asked text pattern s) → windows_of (asked text pattern s) ≤ length flags
     → outcome_said judged ≡ check (flags_truth (asked text pattern s) flags) 16
     → t.found ≡ ones flags (down s * across s) → t.refused ≡ others flags (down s * across s)
@@ -116,7 +113,7 @@ flags_trusted text pattern s judged flags t p room is a b e =
 
 module _ (q : Question) (flags listing : List ℕ) where
   -- refused
-  pub list_stopped : (o : Outcome) (why : Refusal) → o ≡ RefusedOutcome why
+  pub list_stopped : (o : Result ⊤ Refusal) (why : Refusal) → o ≡ Err why
       → outcome_said o ≡ flags_room_said q (length flags)
       → list_done (Refused why) listing ≡ list_of q flags listing
   unfolding list_of list_said

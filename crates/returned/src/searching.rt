@@ -1,40 +1,31 @@
-// What the search answers, in numbers.
+// What the search answers, at one scale and at every scale, in numbers.
 ghost use Rattle.std.specs.Prelude.{◌≡◌};
-ghost use Rattle.refusals.specs.Said.{said_number};
 ghost use Rattle.searched.specs.Search.{searched_said};
+ghost use Rattle.scaled.specs.Scaled.{summed_said};
 ghost use Rattle.returned.specs.Returned.{values_by};
 
-use refusals::refusals::{refusal_number, value_or};
-use searched::answer::Searched;
+use crate::answers::values_after;
+use listing::totals::Totals;
+use refusals::refusals::Refusal;
 
-// The number of an answer.
-pub fn searched_number(answer: Searched) -> u8
-    ensures { result ≡ said_number (searched_said answer) }
+// The totals after an answer: the sums of found, refused and length, or what a refusal returns in the last of them.
+pub fn summed_totals(answer: Result<Totals<usize>, Refusal>, old: [usize; 3]) -> [usize; 3]
+    ensures { result ≡ values_by 2 (summed_said answer) old }
 {
-    match answer {
-        Searched::Listed {
-            found: _,
-            refused: _,
-            length: _,
-        } => 0,
-        Searched::Refused(why) => refusal_number(why),
-    }
+    let numbers = match answer {
+        Ok(t) => Ok([t.found, t.refused, t.length]),
+        Err(why) => Err(why),
+    };
+    values_after(numbers, 2, old)
 }
 
-// The totals after an answer: found, refused and the length, or what a refusal returns in the last of them.
-pub fn searched_totals(answer: Searched, old: [usize; 3]) -> [usize; 3]
+// The same of one scale, whose counts have 16 bits.
+pub fn searched_totals(answer: Result<Totals<u16>, Refusal>, old: [usize; 3]) -> [usize; 3]
     ensures { result ≡ values_by 2 (searched_said answer) old }
 {
-    match answer {
-        Searched::Listed {
-            found,
-            refused,
-            length,
-        } => [found as usize, refused as usize, length],
-        Searched::Refused(why) => {
-            let mut totals = old;
-            totals[2] = value_or(why, old[2]);
-            totals
-        }
-    }
+    let numbers = match answer {
+        Ok(t) => Ok([usize::from(t.found), usize::from(t.refused), t.length]),
+        Err(why) => Err(why),
+    };
+    values_after(numbers, 2, old)
 }

@@ -3,7 +3,7 @@
 -- every scale (`every_counted`, `every_written`): the flags are made a second time for the listings, and that leaves
 -- them as they were.
 -- Assumes nothing.
-use Rattle.std.specs.Prelude.{◌≡◌, refl, List, [], ◌∷◌, ◌++◌, ℕ, ◌+◌, ◌-◌, ◌*◌, ◌≤◌, ◌<◌, leb, length, get_or, take, drop}
+use Rattle.std.specs.Prelude.{Result, Err, ⊤, ◌≡◌, refl, List, [], ◌∷◌, ◌++◌, ℕ, ◌+◌, ◌-◌, ◌*◌, ◌≤◌, ◌<◌, leb, length, get_or, take, drop}
 use Rattle.std.proofs.Common.{sym, ◌∙◌, ap, subst, append-nil, arith, length-drop, drop_of_length-le, take_all, le-leb}
 use Rattle.theory.specs.Bytes.{Bytes}
 use Rattle.theory.specs.Written.{written}
@@ -11,13 +11,10 @@ use Rattle.theory.specs.Test.Laws.{le_tested, says_true}
 use Rattle.refusals.specs.Said.Laws.{check_true}
 use Rattle.refusals.specs.Said.{Said, accepts, refuses, over_front, refusal_said, outcome_said, check_with}
 use Rattle.refusals.specs.declared.refusals.Refusal.{Refusal}
-use Rattle.refusals.specs.declared.refusals.Outcome.{Outcome}
-use Rattle.refusals.specs.declared.refusals.Outcome.TheVariants.{Refused, Accepted}
 use Rattle.shapes.specs.Questions.{Question}
 use Rattle.flags.specs.Flags.{Work, RoomFor, rooms_of, work_after}
 use Rattle.entries.specs.Listing.{found_in, refused_in, needed_length, search_listing}
-use Rattle.searched.specs.Search.{Lent, Done, done, listed_of, listed_said, searched_said}
-use Rattle.searched.specs.declared.answer.Searched.{Searched}
+use Rattle.searched.specs.Search.{Searched, Lent, Done, done, listed_of, listed_said, searched_said}
 use Rattle.scaled.specs.Scaled.{scaled, largest_of, found_to, refused_to, length_to, works_to, listings_to}
 use Rattle.scaled.specs.Scaled.{every_said, every_listed}
 use Rattle.scaled.specs.Scaled.Fit.{PosedAt, EveryRoom, largest_some}
@@ -207,13 +204,13 @@ module _ (q : Question) (w : Work) (l : List ℕ) (room : EveryRoom q (rooms_of 
   abbrev room_asked : Said
   room_asked = check_with (leb (length_to q (largest_of q)) (length l)) 11 (length_to q (largest_of q) ∷ [])
 
-  module _ (o : Outcome) (size : ℕ) (e : size ≡ length_to q (largest_of q))
+  module _ (o : Result ⊤ Refusal) (size : ℕ) (e : size ≡ length_to q (largest_of q))
       (d : outcome_said o ≡ check_with (leb size (length l)) 11 (size ∷ [])) where
     asked_is : room_asked ≡ outcome_said o
     asked_is = rw (← e) (sym d)
 
     -- 11: all are counted, and the listing is as it was
-    pub every_counted : (why : Refusal) (work : Work) → o ≡ Refused why → work ≡ works_to q (largest_of q) w
+    pub every_counted : (why : Refusal) (work : Work) → o ≡ Err why → work ≡ works_to q (largest_of q) w
         → record { said = refusal_said why; lent = record { work = work; listing = l } } ≡ every_listed q given
     unfolding every_listed every_said
     every_counted why work eo ew = rw (asked_is, eo, ew)

@@ -11,8 +11,7 @@ use Rattle.flags.specs.Flags.{Work, RoomFor, rooms_of, work_after}
 use Rattle.flags.specs.Flags.Laws.{flags_after_long, flags_after_true}
 use Rattle.passes.specs.Windows.{Flagged}
 use Rattle.entries.specs.Listing.{search_listing}
-use Rattle.searched.specs.Search.{Lent, done, listed_said, listed_of, list_done}
-use Rattle.searched.specs.declared.answer.Searched.{Searched}
+use Rattle.searched.specs.Search.{Searched, Lent, done, listed_said, listed_of, list_done}
 
 -- the flags that the first leaves are the flags of all windows
 pub flagged_after : (text pattern : List ℕ) (s : Shape) (w after : Work)

@@ -8,7 +8,7 @@ use Rattle.theory.specs.Test.{both}
 use Rattle.theory.specs.Test.Laws.{true_false}
 use Rattle.refusals.specs.declared.refusals.Refusal.{Refusal}
 use Rattle.refusals.specs.Said.{Said, Filled, filled, filled_by, over_front, ◌then◌, check_with, check, outcome_said}
-use Rattle.refusals.specs.Said.{said_number, refuses, accepts}
+use Rattle.refusals.specs.Said.{said_number, answer_said, number_in, refuses, accepts}
 
 -- ---- a chain from its front
 
@@ -16,6 +16,12 @@ use Rattle.refusals.specs.Said.{said_number, refuses, accepts}
 pub and_said : (a b : Result ⊤ Refusal) → outcome_said (result_and a b) ≡ outcome_said a then outcome_said b
 and_said (Ok x) b = refl
 and_said (Err why) b = refl
+
+-- an answer's number does not hang on what it gives
+pub number_said : {A : Type 0} (values : A → List ℕ) (r : Result A Refusal)
+    → number_in r ≡ said_number (answer_said values r)
+number_said values (Ok x) = refl
+number_said values (Err why) = refl
 
 -- what refuses stays
 pub then_stopped : (o : Result ⊤ Refusal) (why : Refusal) (a b : Said) → o ≡ Err why → outcome_said o ≡ a
