@@ -69,7 +69,7 @@ impl Symbols {
 
 // The symbols of a set, rising, at the front of a list, and how many they are: for a walk that is made many times over.
 pub fn list_symbols(symbols: Symbols, listed: &mut [u8; 256]) -> usize
-    ensures number { result ≡ length (members (has symbols) 256) }
+    ensures value { result ≡ length (members (has symbols) 256) }
     ensures listed_after { listed.new ≡ over_front (members (has symbols) 256) listed.old }
 {
     let mut rest = symbols;

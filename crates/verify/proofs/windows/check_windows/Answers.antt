@@ -10,9 +10,6 @@ use Rattle.sets.specs.Symbols.Patterns.{members-set_of_symbols}
 use Rattle.verify.specs.Windows.{tables_none}
 use Rattle.verify.proofs.windows.check_windows.Goals as goal
 
-pub list_symbols-d-requires : goal.list_symbols-d-requires
-list_symbols-d-requires c = zeros_long _ c.no_symbols-listed.ensures
-
 pub slice_bounds-listed-end : goal.slice_bounds-listed-end
 slice_bounds-listed-end c =
     listed_inside _ _ _ _ c.list_symbols-d.ensures.value c.list_symbols-d.ensures.listed_after (zeros_long _ c.no_symbols-listed.ensures)
