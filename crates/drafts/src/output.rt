@@ -2,8 +2,9 @@
 ghost use Rattle.std.specs.Prelude.{◌≡◌, ◌≤◌, length};
 ghost use Rattle.printing.specs.Lines.{Recorded};
 
+use listing::totals::Totals;
 use printing::lines::{write_lines, write_refusal};
-use refusals::refusals::{Refusal, refusal_number};
+use refusals::refusals::Refusal;
 use std::io;
 
 // Writes bytes as they are.
@@ -51,7 +52,7 @@ fn refusal_room() -> [u8; 12]
 // The line of a refusal.
 fn print_refused(rt: &HostRuntime, why: Refusal) -> io::Result<()> {
     let mut output = refusal_room();
-    let length = write_refusal(&mut output, 0, refusal_number(why));
+    let length = write_refusal(&mut output, 0, u8::from(why));
     print(rt, &output[..length])
 }
 
@@ -76,9 +77,9 @@ fn print_found(rt: &HostRuntime, found: u16, refused: u16) -> io::Result<()> {
 }
 
 // What a search counted, and the length of its listing.
-pub fn print_totals(rt: &HostRuntime, found: u16, refused: u16, length: usize) -> io::Result<()> {
-    print_found(rt, found, refused)?;
-    print_named(rt, b" length ", length)
+pub fn print_totals(rt: &HostRuntime, totals: Totals<u16>) -> io::Result<()> {
+    print_found(rt, totals.found, totals.refused)?;
+    print_named(rt, b" length ", totals.length)
 }
 
 // What a check counted.

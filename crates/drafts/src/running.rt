@@ -4,7 +4,6 @@ ghost use Rattle.std.specs.Prelude.{◌≤◌, length};
 use crate::output::{print_counts, print_listing, print_refusal, print_totals};
 use rules::checked::Tally;
 use search::search::search;
-use searched::answer::Searched;
 use std::io;
 use verify::check::check;
 
@@ -37,15 +36,11 @@ pub fn run_in(
         listing,
     );
     match answer {
-        Searched::Listed {
-            found,
-            refused,
-            length,
-        } => {
-            print_listing(rt, &listing[..length])?;
-            print_totals(rt, found, refused, length)
+        Ok(totals) => {
+            print_listing(rt, &listing[..totals.length])?;
+            print_totals(rt, totals)
         }
-        Searched::Refused(why) => print_refusal(rt, why),
+        Err(why) => print_refusal(rt, why),
     }
 }
 

@@ -6,7 +6,8 @@ ghost use Rattle.shapes.specs.Questions.{ask};
 ghost use Rattle.rules.specs.Check.{check_of};
 ghost use Rattle.returned.specs.Returned.{values_by};
 
-use returned::checking::{checked_number, checked_totals};
+use refusals::refusals::answer_number;
+use returned::checking::checked_totals;
 use verify::check::check;
 
 // Checks a listing for a text and a pattern (document 01, 'Reading and checking'). Found and refused go to totals;
@@ -22,7 +23,7 @@ pub extern "C" fn colourway_check(
     listing: &[u8],
     totals: &mut [usize; 2],
 ) -> u8
-    ensures value { result ≡ said_number
+    ensures number { result ≡ said_number
         (check_of (ask text.now rows columns pattern.now height width) listing.now) }
     ensures totals_after { totals.new ≡ values_by 0
         (check_of (ask text.now rows columns pattern.now height width) listing.now)
@@ -30,7 +31,7 @@ pub extern "C" fn colourway_check(
     ensures bytes { Bytes text.now × Bytes pattern.now × Bytes listing.now }
 {
     let answer = check(text, rows, columns, pattern, height, width, listing);
-    let number = checked_number(answer);
+    let number = answer_number(&answer);
     *totals = checked_totals(answer, *totals);
     number
 }

@@ -27,7 +27,7 @@ pub extern "C" fn colourway_one_window(
     backward: &mut [u16; 256],
     mismatch: &mut [usize; 3],
 ) -> u8
-    ensures value { result ≡ said_number (window_said (ask text.now rows columns pattern.now height width) row
+    ensures number { result ≡ said_number (window_said (ask text.now rows columns pattern.now height width) row
         column) }
     ensures backward_after { from_columns forward.new backward.new
         ≡ window_bijection (ask text.now rows columns pattern.now height width) row column

@@ -7,7 +7,8 @@ ghost use Rattle.scaled.specs.Scaled.{every_of};
 ghost use Rattle.searched.specs.Search.{lend};
 ghost use Rattle.returned.specs.Returned.{values_by};
 
-use returned::scales::{summed_number, summed_totals};
+use refusals::refusals::answer_number;
+use returned::searching::summed_totals;
 use scales::every::search_scales;
 
 // Searches a text for a pattern at every scale that fits (document 02, R-2). The sums of found, refused and length go
@@ -27,13 +28,13 @@ pub extern "C" fn colourway_search_scales(
     listing: &mut [u8],
     totals: &mut [usize; 3],
 ) -> u8
-    ensures value { result ≡ said_number (every_of (ask text.now rows columns pattern.now height width)
+    ensures number { result ≡ said_number (every_of (ask text.now rows columns pattern.now height width)
         (lend links.old counts.old flags.old listing.old)).said }
     ensures totals_after { totals.new ≡ values_by 2
         (every_of (ask text.now rows columns pattern.now height width)
         (lend links.old counts.old flags.old listing.old)).said
         totals.old }
-    ensures listing_after { lend links.new counts.new flags.new listing.new
+    ensures lent_after { lend links.new counts.new flags.new listing.new
         ≡ (every_of (ask text.now rows columns pattern.now height width)
         (lend links.old counts.old flags.old listing.old)).lent }
     ensures bytes { Bytes text.now × Bytes pattern.now }
@@ -41,7 +42,7 @@ pub extern "C" fn colourway_search_scales(
     let answer = search_scales(
         text, rows, columns, pattern, height, width, links, counts, flags, listing,
     );
-    let number = summed_number(answer);
+    let number = answer_number(&answer);
     *totals = summed_totals(answer, *totals);
     number
 }

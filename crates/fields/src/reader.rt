@@ -1,13 +1,13 @@
 // What the reader answers, in numbers.
 ghost use Rattle.std.specs.Prelude.{◌≡◌};
-ghost use Rattle.refusals.specs.Said.{said_number, said_values};
+ghost use Rattle.refusals.specs.Said.{said_values};
 ghost use Rattle.reading.specs.Reader.{read_said};
 ghost use Rattle.refusals.specs.Refusals.{value_or_given};
 ghost use Rattle.fields.specs.Reader.{fields_of, fields_by};
 
 use listing::records::Record;
 use reading::reader::Cursor;
-use refusals::refusals::{Refusal, refusal_number, value_or};
+use refusals::refusals::Refusal;
 
 // The numbers of a record: its kind, then those of its body, and 0 for what it does not have.
 pub fn fields_of(item: Record) -> [u16; 7]
@@ -30,16 +30,6 @@ pub fn fields_of(item: Record) -> [u16; 7]
     }
 }
 
-// The number of an answer.
-pub fn read_number(answer: Result<(Record, Cursor), Refusal>) -> u8
-    ensures { result ≡ said_number (read_said answer) }
-{
-    match answer {
-        Ok(_) => 0,
-        Err(why) => refusal_number(why),
-    }
-}
-
 // The fields after an answer: its record's, or else what stood there.
 pub fn read_fields(answer: Result<(Record, Cursor), Refusal>, old: [u16; 7]) -> [u16; 7]
     ensures { result ≡ fields_by (read_said answer) old }
@@ -56,6 +46,6 @@ pub fn read_place(answer: Result<(Record, Cursor), Refusal>, old: usize) -> usiz
 {
     match answer {
         Ok((_, next)) => next.at,
-        Err(why) => value_or(why, old),
+        Err(why) => why.value().unwrap_or(old),
     }
 }

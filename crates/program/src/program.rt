@@ -9,9 +9,8 @@ ghost use Rattle.input.specs.Input.{RightInput};
 
 use input::input::input_outcome;
 use printing::lines::{write_lines, write_refusal};
-use refusals::refusals::{Outcome, Refusal, refusal_number};
+use refusals::refusals::Refusal;
 use search::search::search;
-use searched::answer::Searched;
 
 // The first length bytes are the output. The longest listing has 65,536 bytes, and a byte of it takes at most four.
 #[derive(Drop)]
@@ -52,7 +51,7 @@ fn refused_output(why: Refusal) -> Output
     ensures { Begins result.length result.bytes (refusal_line (number_of why)) }
 {
     let mut bytes = output_buffer();
-    let length = write_refusal(&mut bytes, 0, refusal_number(why));
+    let length = write_refusal(&mut bytes, 0, u8::from(why));
     Output { bytes, length }
 }
 
@@ -71,10 +70,10 @@ fn searched_output(input: &[u8]) -> Output
     requires { RightInput input.now }
     ensures { Begins result.length result.bytes (output_of input.now) }
 {
-    let rows = input[0] as usize;
-    let columns = input[1] as usize;
-    let height = input[2] as usize;
-    let width = input[3] as usize;
+    let rows = usize::from(input[0]);
+    let columns = usize::from(input[1]);
+    let height = usize::from(input[2]);
+    let width = usize::from(input[3]);
     let cut = 4 + rows * columns;
     let text = &input[4..cut];
     let pattern = &input[cut..];
@@ -95,23 +94,18 @@ fn searched_output(input: &[u8]) -> Output
         &mut listing,
     );
     match answer {
-        Searched::Listed {
-            found: _,
-            refused: _,
-            length,
-        } => listed_output(&listing[..length]),
-        Searched::Refused(why) => refused_output(why),
+        Ok(totals) => listed_output(&listing[..totals.length]),
+        Err(why) => refused_output(why),
     }
 }
 
 // What the program prints for an input.
 pub fn answer(input: &[u8]) -> Output
     ensures prefix_len { IsPrefixLen result.length result.bytes }
-    ensures bytes_value { take result.length result.bytes ≡ output_of input.now }
+    ensures output { take result.length result.bytes ≡ output_of input.now }
 {
-    let outcome = input_outcome(input);
-    match outcome {
-        Outcome::Refused(why) => refused_output(why),
-        Outcome::Accepted => searched_output(input),
+    match input_outcome(input) {
+        Err(why) => refused_output(why),
+        Ok(()) => searched_output(input),
     }
 }

@@ -3,6 +3,7 @@
 -- Assumes nothing.
 pub mod Laws
 use Rattle.std.specs.Prelude.{ℕ, List, [], ◌∷◌, Option, Some, None}
+use Rattle.std.specs.Option.{option_to_list}
 use Rattle.refusals.specs.declared.refusals.Refusal.{Refusal}
 use Rattle.refusals.specs.declared.refusals.Reason.{Reason}
 use Rattle.refusals.specs.declared.refusals.Reason.TheVariants.{SizesMissing, SideRange, CellCount, TooLarge}
@@ -47,11 +48,7 @@ value_of (CursorSpent at) = Some at
 
 -- the same as a list
 abbrev pub values_of : Refusal → List ℕ
-values_of why = listed (value_of why)
-  where
-    listed : Option ℕ → List ℕ
-    listed None = []
-    listed (Some n) = n ∷ []
+values_of why = option_to_list (value_of why)
 
 -- What the inner functions' contracts cite.
 

@@ -12,11 +12,11 @@ use refusals::refusals::Refusal;
 pub fn summed_totals(answer: Result<Totals<usize>, Refusal>, old: [usize; 3]) -> [usize; 3]
     ensures { result ≡ values_by 2 (summed_said answer) old }
 {
-    let numbers = match answer {
+    let sums = match answer {
         Ok(t) => Ok([t.found, t.refused, t.length]),
         Err(why) => Err(why),
     };
-    values_after(numbers, 2, old)
+    values_after(sums, 2, old)
 }
 
 // The same of one scale, whose counts have 16 bits.

@@ -8,7 +8,7 @@ use Rattle.printing.specs.Lines.Front.{refusal_front}
 use Rattle.drafts.proofs.output.print_refused.Goals as goal
 
 pub write_refusal-length-requires : goal.write_refusal-length-requires
-write_refusal-length-requires c = omega (arith, refusal_length c.refusal_number.result, c.refusal_room-output.ensures)
+write_refusal-length-requires c = omega (arith, refusal_length c.from.result, c.refusal_room-output.ensures)
 
 pub slice_bounds-output-end : goal.slice_bounds-output-end
 slice_bounds-output-end c =

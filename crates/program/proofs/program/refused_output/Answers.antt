@@ -7,9 +7,9 @@ use Rattle.printing.specs.Lines.Front.{refusal_front}
 use Rattle.program.proofs.program.refused_output.Goals as goal
 
 pub write_refusal-length-requires : goal.write_refusal-length-requires
-write_refusal-length-requires c = omega (arith, refusal_length c.refusal_number.result, c.output_buffer-bytes.ensures)
+write_refusal-length-requires c = omega (arith, refusal_length c.from.result, c.output_buffer-bytes.ensures)
 
 pub returns : goal.returns
 returns c =
-    refusal_front _ _ _ _ _ (omega (arith, c.output_buffer-bytes.ensures)) c.refusal_number.ensures c.write_refusal-length.ensures.value
+    refusal_front _ _ _ _ _ (omega (arith, c.output_buffer-bytes.ensures)) c.from.ensures c.write_refusal-length.ensures.value
     c.write_refusal-length.ensures.output_after
