@@ -3,7 +3,6 @@ ghost use Rattle.std.specs.Prelude.{◌≡◌};
 ghost use Rattle.rules.specs.Check.{checked_said};
 ghost use Rattle.returned.specs.Returned.{values_by};
 
-use crate::answers::values_after;
 use refusals::refusals::Refusal;
 use rules::checked::Tally;
 
@@ -11,9 +10,12 @@ use rules::checked::Tally;
 pub fn checked_totals(answer: Result<Tally, Refusal>, old: [usize; 2]) -> [usize; 2]
     ensures { result ≡ values_by 0 (checked_said answer) old }
 {
-    let numbers = match answer {
-        Ok(Tally { found, refused }) => Ok([usize::from(found), usize::from(refused)]),
-        Err(why) => Err(why),
-    };
-    values_after(numbers, 0, old)
+    match answer {
+        Ok(Tally { found, refused }) => [usize::from(found), usize::from(refused)],
+        Err(why) => {
+            let mut totals = old;
+            totals[0] = why.value().unwrap_or(old[0]);
+            totals
+        }
+    }
 }
