@@ -3,13 +3,13 @@
 -- Assumes nothing.
 use Rattle.std.specs.Prelude.{◌≡◌, Bool, true, false, ◌⊎◌, eqb, get_or}
 use Rattle.std.proofs.Math.Path.{sym, ap, subst}
-use Rattle.std.proofs.Common.{◌∙◌, ap₂, ⊎_elim, suc-mul, add-one, arith, eq-eqb}
+use Rattle.std.proofs.Common.{◌∙◌, ap₂, ⊎_elim, arith, eq-eqb}
 use mathlib.Core.List.{List, ◌++◌}
 use Rattle.std.proofs.Math.Logic.{inl, inr}
 use Prim.Native.Nat.{ℕ, zero, suc, ◌+◌, ◌*◌, ◌≤◌, ◌<◌}
 use Rattle.std.proofs.Math.ListN.{length}
 use Rattle.theory.specs.Test.{pick, Tested, holds, fails}
-use Rattle.theory.specs.Test.Laws.{eq_tested, lt_tested, pick_true}
+use Rattle.theory.specs.Test.Laws.{eq_tested, pick_true}
 use Rattle.theory.specs.Join.{joined}
 use Rattle.theory.specs.Join.Laws.{joined-zero, joined-suc}
 use Rattle.cells.specs.Windows.Laws.{corner_row_lem, corner_column_lem}
@@ -94,17 +94,6 @@ module _ (piece : ℕ → List ℕ) (size : ℕ) (flags : List ℕ) where
           (puts_same piece size (FoundIn flags from k) (FoundIn flags from to) old l p
           (λ j b g. here j g (other y j g)))
 
-  -- one row of windows more
-  pub rows_found : (old l new : List ℕ) (k to : ℕ) → Puts piece size (FoundIn flags 0 k) old l
-      → Puts piece size (FoundIn flags k to) l new → Puts piece size (FoundIn flags 0 to) old new
-  rows_found old l new k to p q =
-      puts_then piece size (FoundIn flags 0 k) (FoundIn flags k to) (FoundIn flags 0 to) old l new p q
-      (λ j b g. which j g (lt_tested j k))
-    where
-      which : (j : ℕ) {b : Bool} → FoundIn flags 0 to j → Tested (j < k) b → FoundIn flags 0 k j ⊎ FoundIn flags k to j
-      which j g (holds d) = inl (record { since = g.since; before = d; found = g.found })
-      which j g (fails d) = inr (record { since = omega arith; before = g.before; found = g.found })
-
   -- the refused ones down a column
   module _ (wide left : ℕ) where
     pub column_refused_none : (l : List ℕ) → Puts piece size (RefusedHere flags wide left 0) l l
@@ -157,10 +146,6 @@ module _ (piece : ℕ → List ℕ) (size : ℕ) (flags : List ℕ) where
         which j g (holds d) = inr (subst (λ (i : ℕ). RefusedHere flags wide i tall j) d g.at_column)
         which j g (fails d) =
             inl (record { column = g.column; beside = omega (arith, g.beside); at_column = g.at_column })
-
--- the end of a row of windows is the next row's place
-pub row_over : (top wide left : ℕ) → left ≡ wide → top * wide + left ≡ (top + 1) * wide
-row_over top wide left e = rw (e, add-one top) (sym (suc-mul top wide))
 
 pick_le : (b : Bool) (size : ℕ) → size ≤ 771 → pick b size 7 ≤ 771
 pick_le true size h = h

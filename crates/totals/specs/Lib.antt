@@ -1,3 +1,2 @@
-pub mod Laid
 pub mod Pattern
 pub mod Totalled

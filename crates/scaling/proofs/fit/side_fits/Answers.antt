@@ -1,7 +1,6 @@
 -- `fit::side_fits` meets its contract: k × part is at most the whole exactly if k is at most whole / part.
 -- Assumes nothing.
 use Rattle.std.proofs.Common.{◌∙◌, arith}
-use Rattle.std.proofs.Math.Path.{sym}
 use Rattle.theory.specs.Test.Laws.{is_true, eq_tested}
 use Rattle.scaling.specs.Scaling.Laws.{none_fits, some_fits}
 use Rattle.scaling.proofs.fit.side_fits.Goals as goal
