@@ -23,10 +23,12 @@ check_listing-requires c = posed _ [] (good c)
 
 pub returns-in-Refused-clause-result_value : goal.returns-in-Refused-clause-result_value
 returns-in-Refused-clause-result_value c =
-    check_refused (asking (goal.at.returns-in-Refused-clause-result_value c).Start) c.args.listing.now _ _ c.in-Refused.is
+    check_refused (asking (goal.at.returns-in-Refused-clause-result_value c).Start) c.args.listing.now _ _
+    c.in-Refused.is
     c.question_outcome-outcome.ensures
 
 pub returns-in-Accepted-clause-result_value : goal.returns-in-Accepted-clause-result_value
 returns-in-Accepted-clause-result_value c =
     check_walked (asking (goal.at.returns-in-Accepted-clause-result_value c).Start) c.args.listing.now
-    c.check_listing.result (good (goal.at.returns-in-Accepted-clause-result_value c).In-Accepted) c.check_listing.ensures
+    c.check_listing.result (good (goal.at.returns-in-Accepted-clause-result_value c).In-Accepted)
+    c.check_listing.ensures
