@@ -4,8 +4,8 @@
 pub mod Plain
 pub mod Reading
 pub mod Rising
-use Rattle.std.specs.Prelude.{◌≡◌, Bool, true, false, List, ◌∷◌, ℕ, ◌+◌, ◌≤◌, ◌<◌, eqb, length, get_or}
-use Rattle.std.proofs.Common.{sym, ◌∙◌, ap, arith}
+use Rattle.std.proofs.Common.{◌≡◌, Bool, true, false, List, ◌∷◌, ℕ, ◌+◌, ◌≤◌, ◌<◌, eqb, length, get_or, sym, ◌∙◌, ap}
+use Rattle.std.proofs.Common.{arith, Ok, Err}
 use Rattle.theory.specs.Older.{Older}
 use Rattle.occurrences.specs.Distinct.{contains}
 use Rattle.occurrences.specs.Distinct.Sets.{contains_tested}
@@ -22,7 +22,6 @@ use Rattle.inheriting.specs.Inheritance.Laws.{follows_carried}
 use Rattle.inheriting.specs.Offsets.{corner_of, image_from_behind, Offsets, ImagesInside}
 use Rattle.inheriting.specs.Offsets.Laws.{offset_inside, inside_listed}
 use Rattle.claims.specs.Claims.{or_stop, byte_at, stands, has_image_test, right_pair}
-use Rattle.std.specs.Prelude.{Ok, Err}
 use Rattle.claims.specs.Claims.{Walk}
 
 -- a window that a found record names: its corner, the offsets that lead from there to its symbols' images, and whether
@@ -57,7 +56,8 @@ imply_tested (holds p) (holds q) = holds (λ _. q)
 imply_tested (holds p) (fails n) = fails (λ f. n (f p))
 imply_tested (fails n) t = holds (λ p. absurd (n p))
 
-pub has_image_tested : (m w : ℕ → ℕ) (n a b : ℕ) → Tested ((p : ℕ) → p < n → m p ≡ a → w p ≡ b) (has_image_test m w n a b)
+pub has_image_tested : (m w : ℕ → ℕ) (n a b : ℕ) → Tested ((p : ℕ) → p < n → m p ≡ a
+    → w p ≡ b) (has_image_test m w n a b)
 unfolding has_image_test
 has_image_tested m w n a b =
     every_tested (λ p. pick (eqb (m p) a) (eqb (w p) b) true) n

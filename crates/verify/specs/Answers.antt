@@ -1,14 +1,12 @@
 -- What the check answers: where a window or the closing stops the walk, where the listing is kept, and where 2, 3, 4
 -- refuse before it begins.
 -- Assumes nothing.
-use Rattle.std.specs.Prelude.{◌≡◌, List, [], ℕ, ◌-◌}
-use Rattle.std.proofs.Common.{◌∙◌, arith}
+use Rattle.std.proofs.Common.{◌≡◌, List, [], ℕ, ◌-◌, ◌∙◌, arith, Ok, Err}
 use Rattle.theory.specs.Count.Laws.{count_not}
 use Rattle.refusals.specs.Said.{accepts}
 use Rattle.shapes.specs.Questions.{Question, windows_of, shape_said}
 use Rattle.refusals.specs.declared.refusals.Refusal.{Refusal}
 use Rattle.claims.specs.Claims.{Walk}
-use Rattle.std.specs.Prelude.{Ok, Err}
 use Rattle.rules.specs.Check.{closing_from, windows_to, stands_found, found_to, refused_to, listing_walk, checked_said}
 use Rattle.rules.specs.Check.{Checked, kept, walk_said, listing_said, check_of}
 

@@ -1,9 +1,8 @@
 -- What the walk over all windows says.
 -- Assumes nothing.
-use Rattle.std.specs.Prelude.{◌≡◌, Bool, List, eqb, length, get_or, replicate}
-use Rattle.std.proofs.Math.Path.{refl, ap}
-use Rattle.std.proofs.Common.{sym, ◌∙◌, subst, add-zero, add-suc, add-one, arith}
-use Prim.Native.Nat.{ℕ, zero, suc, ◌+◌, ◌-◌, ◌*◌, ◌≤◌, ◌<◌}
+use Rattle.std.proofs.Common.{◌≡◌, Bool, List, eqb, length, get_or, replicate, refl, ap, sym, ◌∙◌, subst, add-zero}
+use Rattle.std.proofs.Common.{add-suc, add-one, arith, ℕ, zero, suc, ◌+◌, ◌-◌, ◌*◌, ◌≤◌, ◌<◌, Result, Ok, Err, Option}
+use Rattle.std.proofs.Common.{Some, None}
 use Rattle.std.proofs.lemmas.List.{length-replicate}
 use Rattle.theory.specs.Test.{pick}
 use Rattle.theory.specs.Older.Laws.{older_zeros}
@@ -23,7 +22,6 @@ use Rattle.inheriting.specs.Inheritance.{CheckTables}
 use Rattle.inheriting.specs.declared.tables.Tables.{Tables}
 use Rattle.inheriting.specs.Offsets.Laws.{prepared_none}
 use Rattle.claims.specs.Claims.{Walk}
-use Rattle.std.specs.Prelude.{Result, Ok, Err, Option, Some, None}
 use Rattle.rules.specs.Check.{entry_from, place_in, windows_to, stands_found, found_to}
 use Rattle.rules.specs.Entries.{goes_found}
 use Rattle.verify.specs.declared.windows.Passed.{Passed}

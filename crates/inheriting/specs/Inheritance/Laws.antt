@@ -1,8 +1,9 @@
 -- Laws of inheritance: what is carried follows, and what follows is carried; the window below follows in the rows that
 -- are not new.
 -- Assumes nothing.
-use Rattle.std.specs.Prelude.{◌≡◌, Bool, false, List, ℕ, ◌+◌, ◌-◌, ◌*◌, ◌≤◌, ◌<◌, length, get_or, set, Option, Some, None}
-use Rattle.std.proofs.Common.{sym, ◌∙◌, ap, add-mul, zero-mul, mul-le-mul_right, arith, length-set, get_or-set_same, get_or-set_other}
+use Rattle.std.proofs.Common.{◌≡◌, Bool, false, List, ℕ, ◌+◌, ◌-◌, ◌*◌, ◌≤◌, ◌<◌, length, get_or, set, Option, Some}
+use Rattle.std.proofs.Common.{None, sym, ◌∙◌, ap, add-mul, zero-mul, mul-le-mul_right, arith, length-set}
+use Rattle.std.proofs.Common.{get_or-set_same, get_or-set_other}
 use Rattle.theory.specs.Test.{Tested, holds, fails}
 use Rattle.theory.specs.Test.Laws.{eq_tested}
 use Rattle.theory.specs.First.{First}
@@ -102,7 +103,8 @@ module _ (text pattern : List ℕ) (v : WindowPlace) (above k end : ℕ) (some :
           → cell_of_pattern pattern q ≡ cell_of_pattern pattern p → window_of text v q ≡ window_of text v p
       go q p hq hp e =
           let a =
-          even_if (cell_of_pattern pattern) (suffix (cell_of_pattern pattern) (k * v.width)) (length pattern - k * v.width)
+          even_if (cell_of_pattern pattern) (suffix (cell_of_pattern pattern) (k * v.width)) (length pattern - k *
+          v.width)
           own_clear q p (omega (arith, rows_left)) (omega (arith, rows_left)) in
           window_lower q
           ∙ known.same (k * v.width + q) (k * v.width + p) (omega (arith, rows_left, rows_fit, size))

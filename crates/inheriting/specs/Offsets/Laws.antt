@@ -1,8 +1,9 @@
 -- Laws of offsets: a table filled symbol by symbol has them all; they are small, and lead from a window's corner to
 -- cells of the text.
 -- Assumes nothing.
-use Rattle.std.specs.Prelude.{◌≡◌, refl, Bool, true, List, ℕ, ◌+◌, ◌*◌, ◌/◌, ◌≤◌, ◌<◌, length, get_or, set, Option, Some, None}
-use Rattle.std.proofs.Common.{sym, ◌∙◌, ap, add-mul, mul-le-mul, arith, length-set, get_or-set_same, get_or-set_other}
+use Rattle.std.proofs.Common.{◌≡◌, refl, Bool, true, List, ℕ, ◌+◌, ◌*◌, ◌/◌, ◌≤◌, ◌<◌, length, get_or, set, Option}
+use Rattle.std.proofs.Common.{Some, None, sym, ◌∙◌, ap, add-mul, mul-le-mul, arith, length-set, get_or-set_same}
+use Rattle.std.proofs.Common.{get_or-set_other}
 use Rattle.theory.specs.Bytes.{Bytes}
 use Rattle.theory.specs.Test.{Tested, holds, fails}
 use Rattle.theory.specs.Test.Laws.{eq_tested, is_true, says_true}
@@ -40,7 +41,8 @@ prepared_made pattern columns width offsets here =
     record { made = λ table e. let same : table ≡ here.table = cc (e, here.table_is) in rw same here.leads }
 
 -- where it is asked for, it is there
-pub made_some : (pattern : List ℕ) (columns width : ℕ) (offsets : Option (List ℕ)) → Prepared pattern columns width offsets
+pub made_some : (pattern : List ℕ) (columns width : ℕ) (offsets : Option (List ℕ))
+    → Prepared pattern columns width offsets
     → (offsets ≡ None → ⊥) → Made pattern columns width offsets
 made_some pattern columns width None here some = absurd (some refl)
 made_some pattern columns width (Some table) here some =
@@ -69,7 +71,8 @@ module _ (columns width : ℕ) (symbols first : List ℕ) where
       record { long = rw length-set here.long; each = λ j h. go j h (eq_tested (get_or symbols j 0) a) }
     where
       go : (j : ℕ) {t : Bool} → j < i + 1 → Tested (get_or symbols j 0 ≡ a) t
-          → get_or (set offsets a x) (get_or symbols j 0) 0 ≡ offset_of columns width (get_or first (get_or symbols j 0) 0)
+          → get_or (set offsets a x) (get_or symbols j 0) 0
+          ≡ offset_of columns width (get_or first (get_or symbols j 0) 0)
       go j h (holds d) = rw d (get_or-set_same offsets a x 0 (omega (arith, here.long)) ∙ e)
       go j h (fails d) =
           let other : j ≡ i → ⊥ = λ z. d (ap (λ (y : ℕ). get_or symbols y 0) z ∙ sym is) in
@@ -107,9 +110,14 @@ module _ (text : List ℕ) (v : WindowPlace) (pattern offsets : List ℕ) (place
       omega (arith, e, inside.within, add-mul v.row (get_or leads.first a 0 / v.width) v.columns)
 
   -- so do those of the listed symbols
-  pub inside_listed : (symbols : List ℕ) → symbols ≡ symbols_of pattern → ImagesInside text (corner_of v) offsets symbols
+  pub inside_listed : (symbols : List ℕ) → symbols ≡ symbols_of pattern
+      → ImagesInside text (corner_of v) offsets symbols
   inside_listed symbols e =
-      record { long = leads.long; each = λ i h. offset_inside (get_or symbols i 0) (listed_symbol pattern symbols e i h).1 }
+      record {
+        long = leads.long;
+        each = λ i h. offset_inside (get_or symbols i 0) (listed_symbol pattern symbols e i
+            h).1;
+      }
 
   -- and those of cells of the pattern
   pub inside_cells : (cells : List ℕ) (from n : ℕ) → length cells ≡ n → from + n ≤ length pattern

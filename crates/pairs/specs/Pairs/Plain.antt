@@ -1,8 +1,8 @@
 -- Plain pairs: those of a window that follows the pattern, as they are where nothing is wrong. A plain pair stands in
 -- the listing and is right, so the walk goes on behind it, and its symbol is marked.
 -- Assumes nothing.
-use Rattle.std.specs.Prelude.{◌≡◌, refl, Bool, true, List, [], ℕ, ◌+◌, ◌-◌, ◌*◌, ◌/◌, ◌≤◌, ◌<◌, length, get_or, set}
-use Rattle.std.proofs.Common.{sym, ◌∙◌, arith, length-set, eq-eqb}
+use Rattle.std.proofs.Common.{◌≡◌, refl, Bool, true, List, [], ℕ, ◌+◌, ◌-◌, ◌*◌, ◌/◌, ◌≤◌, ◌<◌, length, get_or, set}
+use Rattle.std.proofs.Common.{sym, ◌∙◌, arith, length-set, eq-eqb, Ok}
 use Rattle.theory.specs.Older.{Older}
 use Rattle.theory.specs.Test.Laws.{is_true}
 use Rattle.occurrences.specs.Distinct.{contains}
@@ -12,7 +12,6 @@ use Rattle.matching.specs.Compare.{cell_of_pattern, window_of, cell_count}
 use Rattle.listing.specs.Records.{kind_size}
 use Rattle.claims.specs.Claims.{stands, pairs_from}
 use Rattle.claims.specs.Claims.Standing.{stands_tested}
-use Rattle.std.specs.Prelude.{Ok}
 use Rattle.pairs.specs.Pairs.{FoundWindow, Marked, PairRead, image_carried}
 use Rattle.pairs.specs.Pairs.Reading.{read_right}
 use Rattle.inheriting.specs.Offsets.{image_from_behind}
@@ -36,7 +35,8 @@ pub record PlainTo (text : List ℕ) (carried : Bool) (corner : ℕ) (offsets : 
   pub each : (v : WindowPlace) (pattern : List ℕ) → FoundWindow text v pattern carried corner offsets
       → symbols ≡ symbols_of pattern → Older base old
       → PairsLeft (cell_of_pattern pattern) (window_of text v) (cell_count v) listing symbols base
-      (pairs_from (cell_of_pattern pattern) (window_of text v) (cell_count v) listing (symbols_of pattern) [] at) i end marks
+      (pairs_from (cell_of_pattern pattern) (window_of text v) (cell_count v) listing (symbols_of pattern) [] at) i
+      end marks
 
 -- a pair stands where its kind does and there is room for it
 pair_stands : (listing : List ℕ) (at : ℕ) → get_or listing at 0 ≡ 2 → at + 3 ≤ length listing
@@ -60,7 +60,8 @@ plain_read : (text : List ℕ) (v : WindowPlace) (pattern : List ℕ) (corner : 
 plain_read text v pattern corner offsets base a listing at given old new found has room p here =
     rw p.marked (read_right (cell_of_pattern pattern) (window_of text v) (cell_count v) listing a base at given old here
     (pair_stands listing at p.kind room) y refl p.byte p.symbol p.fresh
-    (sym (image_carried text v pattern true corner offsets a y (image_from_behind text corner offsets a) found refl has refl)
+    (sym (image_carried text v pattern true corner offsets a y (image_from_behind text corner offsets a) found refl
+    has refl)
     ∙ eq-eqb (image_from_behind text corner offsets a) y p.image))
   where
     y : ℕ
@@ -74,7 +75,8 @@ module _ (text : List ℕ) (corner : ℕ) (offsets : List ℕ) (base : ℕ) (sym
       rw e (record {
         long = l;
         each = λ v pattern found listed older.
-            symbols_left_all (cell_of_pattern pattern) (window_of text v) (cell_count v) listing symbols base pattern at old
+            symbols_left_all (cell_of_pattern pattern) (window_of text v) (cell_count v) listing symbols base pattern
+            at old
             listed older;
       })
 
@@ -92,13 +94,16 @@ module _ (text : List ℕ) (corner : ℕ) (offsets : List ℕ) (base : ℕ) (sym
       more : (v : WindowPlace) (pattern : List ℕ) → FoundWindow text v pattern true corner offsets
           → symbols ≡ symbols_of pattern
           → PairsLeft (cell_of_pattern pattern) (window_of text v) (cell_count v) listing symbols base
-          (pairs_from (cell_of_pattern pattern) (window_of text v) (cell_count v) listing (symbols_of pattern) [] at) i end marks
+          (pairs_from (cell_of_pattern pattern) (window_of text v) (cell_count v) listing (symbols_of pattern) [] at)
+          i end marks
           → PairsLeft (cell_of_pattern pattern) (window_of text v) (cell_count v) listing symbols base
-          (pairs_from (cell_of_pattern pattern) (window_of text v) (cell_count v) listing (symbols_of pattern) [] at) (i + 1)
+          (pairs_from (cell_of_pattern pattern) (window_of text v) (cell_count v) listing (symbols_of pattern) [] at)
+          (i + 1)
           (end + 3) new
       more v pattern found listed left =
           left_passed (cell_of_pattern pattern) (window_of text v) (cell_count v) listing symbols base
-          (pairs_from (cell_of_pattern pattern) (window_of text v) (cell_count v) listing (symbols_of pattern) [] at) i end marks
+          (pairs_from (cell_of_pattern pattern) (window_of text v) (cell_count v) listing (symbols_of pattern) [] at)
+          i end marks
           left (get_or symbols i 0) refl inside (Ok (end + 3)) new
           (plain_read text v pattern corner offsets base (get_or symbols i 0) listing end left.before marks new found
           (listed_symbol pattern symbols listed i inside).1 room p left.marked)

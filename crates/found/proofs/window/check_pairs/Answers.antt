@@ -35,7 +35,8 @@ returns-in_err-end c =
     let e = c.check_pair.ensures i.before i.marked in
     let same : c.from_residual.result ≡ c.check_pair.result = search rules in record {
       answer = same
-          ∙ left_stopped _ _ _ _ _ _ (whole (goal.at.returns-in_err-end c).Start) _ _ _ i _ refl c.loop-i-test.true _ _ e
+          ∙ left_stopped _ _ _ _ _ _ (whole (goal.at.returns-in_err-end c).Start) _ _ _ i _ refl c.loop-i-test.true _
+          _ e
           _ c.in_err-end.was;
       older = marks_next _ _ e.older;
     }

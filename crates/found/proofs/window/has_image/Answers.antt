@@ -1,4 +1,5 @@
--- `window::has_image` meets its contract: where the window is carried, the symbol's image says it (`image_carried`), and
+-- `window::has_image` meets its contract: where the window is carried, the symbol's image says it (`image_carried`),
+-- and
 -- otherwise every cell is asked.
 -- Assumes nothing.
 use Rattle.pairs.specs.Pairs.{image_carried, image_inside}

@@ -24,7 +24,8 @@ returns-in_default-clause-answer c =
 pub returns-then-not-is_due-clause-answer : goal.returns-then-not-is_due-clause-answer
 returns-then-not-is_due-clause-answer c =
     entry_not_due c.args.text.now c.args.pattern.now c.args.v c.args.listing.now c.args.at _ _ _
-    (whole (goal.at.returns-then-not-is_due-clause-answer c).In-Ok _ c.in-Found.is) (sym c.is_due.ensures ∙ c.if-not-is_due.true)
+    (whole (goal.at.returns-then-not-is_due-clause-answer c).In-Ok _ c.in-Found.is) (sym c.is_due.ensures
+    ∙ c.if-not-is_due.true)
 
 pub refused_window-requires : goal.refused_window-requires
 refused_window-requires c = (
@@ -37,13 +38,15 @@ refused_window-requires c = (
 pub returns-else-not-is_due-clause-answer : goal.returns-else-not-is_due-clause-answer
 returns-else-not-is_due-clause-answer c =
     found_entry_passes c.args.text.now c.args.pattern.now c.args.v c.args.listing.now c.args.at _ _ _
-    (whole (goal.at.returns-else-not-is_due-clause-answer c).In-Ok _ c.in-Found.is) (sym c.is_due.ensures ∙ c.if-not-is_due.false) _
+    (whole (goal.at.returns-else-not-is_due-clause-answer c).In-Ok _ c.in-Found.is) (sym c.is_due.ensures
+    ∙ c.if-not-is_due.false) _
     c.found_pairs.ensures.answer
 
 pub returns-in-Mismatch-clause-answer : goal.returns-in-Mismatch-clause-answer
 returns-in-Mismatch-clause-answer c =
     entry_mismatch c.args.text.now c.args.pattern.now c.args.v c.args.listing.now c.args.at c.in-Mismatch.alike
-    c.in-Mismatch.body _ (whole (goal.at.returns-in-Mismatch-clause-answer c).In-Ok _ c.in-Mismatch.is) _ c.refused_window.ensures
+    c.in-Mismatch.body _ (whole (goal.at.returns-in-Mismatch-clause-answer c).In-Ok _ c.in-Mismatch.is) _
+    c.refused_window.ensures
 
 pub returns-in-Pair-clause-answer : goal.returns-in-Pair-clause-answer
 returns-in-Pair-clause-answer c =

@@ -1,4 +1,5 @@
--- `decimal::write_decimal` meets its contract: by the number of digits, one, two or three, the bytes put are the digits.
+-- `decimal::write_decimal` meets its contract: by the number of digits, one, two or three, the bytes put are the
+-- digits.
 -- Assumes nothing.
 use Rattle.printing.specs.Decimal.Laws.{decimal_one, decimal_two, decimal_three}
 use Rattle.printing.proofs.decimal.write_decimal.Goals as goal

@@ -15,7 +15,8 @@ use Rattle.verify.proofs.check.check_listing.Goals.{In_ok-at}
 passed : (c : In_ok-at)
     → let q = asked c.args.text.now c.args.pattern.now c.args.s in
     let n = down c.args.s * across c.args.s in
-    (windows_to q c.args.listing.now n ≡ Ok c.in_ok-at.field-0.at) × (c.in_ok-at.field-0.found ≡ found_to q c.args.listing.now n)
+    (windows_to q c.args.listing.now n ≡ Ok c.in_ok-at.field-0.at) × (c.in_ok-at.field-0.found
+    ≡ found_to q c.args.listing.now n)
 passed c =
     subst (WindowsWalked (asked c.args.text.now c.args.pattern.now c.args.s) c.args.listing.now) c.in_ok-at.was
     c.check_windows.ensures
