@@ -85,7 +85,10 @@ fn links_serve(flags: &[u8], s: Shape, across: usize, k: usize, top: usize) -> b
     n <= top && top + n + s.height <= s.rows && flags[k - n * across] == 1
 }
 
-// The flags of the windows at column left, down to a match below which links serve, or of all of them; how many.
+// The flags of the windows at column left, down to a match below which links serve, or of all of them; how many. Never
+// a part of its caller: there the loop's numbers lie on the stack, and a window that its count tells takes twice as
+// long.
+#[inline(never)]
 pub fn flags_to_match<P: Pattern>(
     text: &[u8],
     pattern: P,

@@ -46,7 +46,8 @@ fn known_refused<P: Pattern>(
 
 // Whether the flags of the windows at column left are the truth, and if so the two cells that are kept for the next
 // strip: which, is a matter of time. A window that nothing else tells is compared, with what the last one compared says
-// of it.
+// of it. Never a part of its caller, as `flags_to_match` of crates/flags.
+#[inline(never)]
 fn strip_true<P: Pattern>(
     text: &[u8],
     pattern: P,
