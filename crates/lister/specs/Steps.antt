@@ -53,7 +53,8 @@ module _ (q : Question) (totals : Totals ℕ) (is : totals ≡ totals_in q) (lis
 
 -- flags that are the truth are the flags of all windows
 pub flags_flagged : (text pattern : List ℕ) (s : Shape) (flags : List ℕ) → Posed (asked text pattern s)
-    → windows_of (asked text pattern s) ≤ length flags → accepts [] ≡ check (flags_truth (asked text pattern s) flags) 16
+    → windows_of (asked text pattern s) ≤ length flags
+    → accepts [] ≡ check (flags_truth (asked text pattern s) flags) 16
     → Flagged text pattern s flags
 flags_flagged text pattern s flags p room e =
     record {

@@ -7,6 +7,7 @@ ghost use Rattle.entries.specs.Listing.Offsets.{pair_places};
 ghost use Rattle.passes.specs.Windows.{Flagged};
 ghost use Rattle.passes.specs.Strips.{piece_of, FoundIn};
 
+// Across and down are written out here: so they are what the laws say, and no call's result stands between.
 use entries::entries::{strip_window, write_if_found};
 use entries::offsets::PairPlace;
 use placed::pattern::Pattern;

@@ -3,7 +3,8 @@
 -- every scale (`every_counted`, `every_written`): the flags are made a second time for the listings, and that leaves
 -- them as they were.
 -- Assumes nothing.
-use Rattle.std.specs.Prelude.{Ok, ◌≡◌, refl, List, [], ◌∷◌, ◌++◌, ℕ, ◌+◌, ◌-◌, ◌*◌, ◌≤◌, ◌<◌, leb, length, get_or, take, drop}
+use Rattle.std.specs.Prelude.{Ok, ◌≡◌, refl, List, [], ◌∷◌, ◌++◌, ℕ, ◌+◌, ◌-◌, ◌*◌, ◌≤◌}
+use Rattle.std.specs.Prelude.{◌<◌, leb, length, get_or, take, drop}
 use Rattle.std.proofs.Common.{sym, ◌∙◌, ap, subst, append-nil, arith, length-drop, drop_of_length-le, take_all, le-leb}
 use Rattle.theory.specs.Bytes.{Bytes}
 use Rattle.theory.specs.Written.{written}
@@ -220,7 +221,8 @@ module _ (q : Question) (w : Work) (l : List ℕ) (room : EveryRoom q (rooms_of 
   size_is = ap (λ (t : Totals ℕ). t.length) is
 
   -- 11: all are counted, and the listing is as it was
-  pub every_counted : (why : Refusal) → refusal_said why ≡ room_asked → (work : Work) → work ≡ works_to q (largest_of q) w
+  pub every_counted : (why : Refusal) → refusal_said why ≡ room_asked → (work : Work)
+      → work ≡ works_to q (largest_of q) w
       → record { said = refusal_said why; lent = record { work = work; listing = l } } ≡ every_listed q given
   unfolding every_listed every_said
   every_counted why e work ew = rw (← size_is, ← e, ew)

@@ -22,7 +22,8 @@ use scaling::fit::largest_scale;
 use scaling::room::every_room_outcome;
 use shapes::shapes::Shape;
 
-// Counts at every scale from 1 to the largest, and adds up: one scale's counts have 16 bits, the sums do not. Links, counts and flags are written afresh for each, from their start.
+// Counts at every scale from 1 to the largest, and adds up: one scale's counts have 16 bits, the sums do not. Links,
+// counts and flags are written afresh for each, from their start.
 fn count_scales(
     text: &[u8],
     pattern: &[u8],

@@ -12,7 +12,8 @@ use Rattle.lister.proofs.list.list_posed.Goals.{In_ok-truth_outcome}
 flagged : (g : _) (c : In_ok-truth_outcome g) →
     let a = c.args in Flagged a.text.now (g.P.Pattern.cells c.read_pattern-known.result.pattern) a.s a.flags.now
 flagged g c =
-    flags_flagged _ _ _ _ (rw c.read_pattern-known.ensures c.requires.0) c.requires.1 c.in_ok-truth_outcome.ensures.judged
+    flags_flagged _ _ _ _ (rw c.read_pattern-known.ensures c.requires.0) c.requires.1
+    c.in_ok-truth_outcome.ensures.judged
 
 pub list_flagged-requires : goal.list_flagged-requires
 list_flagged-requires g c =

@@ -1,5 +1,5 @@
--- `every::count_scales` meets its contract. The invariant: k scales are counted (`CountedTo`); there is room for the next
--- (`scale_room`), and the sums stay small.
+-- `every::count_scales` meets its contract. The invariant: k scales are counted (`CountedTo`); there is room for the
+-- next (`scale_room`), and the sums stay small.
 -- Assumes nothing.
 use Rattle.std.proofs.Common.{◌<◌, arith}
 use Rattle.shapes.specs.Questions.{Question, asked}
@@ -64,5 +64,5 @@ loop-k-preserved c =
     let p = goal.at.loop-k-preserved c in
     let e = c.count_enlarged-totals.ensures in
     rw (c.from.ensures, c.from-in-loop-k.ensures)
-    (counted_more (asking p.Start) (lent p.Start) c.requires.0 _ _ _ (inside p.In-loop-k) c.loop-k.invariant _ e.totals _
-    e.buffers)
+    (counted_more (asking p.Start) (lent p.Start) c.requires.0 _ _ _ (inside p.In-loop-k) c.loop-k.invariant _
+    e.totals _ e.buffers)

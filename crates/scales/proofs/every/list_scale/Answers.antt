@@ -1,5 +1,5 @@
--- `every::list_scale` meets its contract: there is room for the listing in what is left of the buffer, so the search writes
--- it there (`listed_listing`), and it stands at its place in the whole (`rest_back`).
+-- `every::list_scale` meets its contract: there is room for the listing in what is left of the buffer, so the search
+-- writes it there (`listed_listing`), and it stands at its place in the whole (`rest_back`).
 -- Assumes nothing.
 use Rattle.std.proofs.Common.{◌≤◌, ◌-◌, List, ℕ, length, take, drop, length-drop, ◌∙◌, ap, arith}
 use Rattle.shapes.specs.Questions.{Question, asked}

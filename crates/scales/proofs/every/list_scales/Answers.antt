@@ -1,5 +1,5 @@
--- `every::list_scales` meets its contract. The invariant: the listings of k scales are written (`ListedTo`), and there is
--- room for the next one (`scale_room`, `scale_fits`).
+-- `every::list_scales` meets its contract. The invariant: the listings of k scales are written (`ListedTo`), and there
+-- is room for the next one (`scale_room`, `scale_fits`).
 -- Assumes nothing.
 use Rattle.std.proofs.Common.{◌≤◌, ◌<◌, ◌+◌, ℕ, length, ap, arith}
 use Rattle.shapes.specs.Questions.{Question, asked}
@@ -36,7 +36,8 @@ list_scale-at-requires c =
     let r = scale_room (asking p.Start) (lent p.Start) c.requires.0 _ _ (inside p.In-loop-k) l.invariant.works in (
       r.0,
       r.1,
-      scale_fits (asking p.Start) (lent p.Start) c.args.listing.now (λ i. omega (arith, c.type_inv.pattern i)) (fits p.Start) _ _ _ _
+      scale_fits (asking p.Start) (lent p.Start) c.args.listing.now (λ i. omega (arith, c.type_inv.pattern i))
+          (fits p.Start) _ _ _ _
           (inside p.In-loop-k) l.invariant,
     )
 
@@ -46,7 +47,8 @@ overflow_add-at c =
     omega (
       arith,
       c.list_scale-at.ensures.length,
-      at_small (asking p.Start) (lent p.Start) c.args.listing.now (λ i. omega (arith, c.type_inv.pattern i)) (fits p.Start) _ _ _ _
+      at_small (asking p.Start) (lent p.Start) c.args.listing.now (λ i. omega (arith, c.type_inv.pattern i))
+          (fits p.Start) _ _ _ _
           (inside p.In-loop-k) c.loop-k.invariant c.requires.0.posed_is,
     )
 
@@ -54,5 +56,6 @@ pub loop-k-preserved : goal.loop-k-preserved
 loop-k-preserved c =
     let p = goal.at.loop-k-preserved c in
     let e = c.list_scale-at.ensures in
-    listed_more (asking p.Start) (lent p.Start) c.args.listing.now (λ i. omega (arith, c.type_inv.pattern i)) (fits p.Start) _ _ _ _
+    listed_more (asking p.Start) (lent p.Start) c.args.listing.now (λ i. omega (arith, c.type_inv.pattern i))
+    (fits p.Start) _ _ _ _
     (inside p.In-loop-k) c.loop-k.invariant _ _ _ e.buffers e.listing_after (ap (λ (n : ℕ). c.loop-k.at + n) e.length)

@@ -6,5 +6,5 @@ use Rattle.scales.proofs.every.list_scales.Given as goal
 
 abbrev pub invariant-loop-k : goal.invariant-loop-k
 invariant-loop-k l =
-    ListedTo (asked l.text l.pattern l.s) (working l.initial.links l.initial.counts l.initial.flags) l.initial.listing l.k
-    (working l.links l.counts l.flags) l.listing l.at
+    ListedTo (asked l.text l.pattern l.s) (working l.initial.links l.initial.counts l.initial.flags) l.initial.listing
+    l.k (working l.links l.counts l.flags) l.listing l.at

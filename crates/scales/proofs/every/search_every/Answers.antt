@@ -1,5 +1,5 @@
--- `every::search_every` meets its contract: all scales are counted; then 11 (`every_counted`), or all are listed, for which
--- they are counted once more, and that leaves what the first time left (`every_written`).
+-- `every::search_every` meets its contract: all scales are counted; then 11 (`every_counted`), or all are listed, for
+-- which they are counted once more, and that leaves what the first time left (`every_written`).
 -- Assumes nothing.
 use Rattle.std.proofs.Common.{◌≡◌, Err, rules, ℕ, sym, ◌∙◌, ap, subst, arith}
 use Rattle.shapes.specs.Questions.{Question, asked}

@@ -1,5 +1,5 @@
--- `every::search_scales` meets its contract: refused as its outcome says, nothing is written; else there is room for the
--- search at every scale (`every_passed`), and that is what is done.
+-- `every::search_scales` meets its contract: refused as its outcome says, nothing is written; else there is room for
+-- the search at every scale (`every_passed`), and that is what is done.
 -- Assumes nothing.
 use Rattle.std.proofs.Common.{◌≡◌, Err, refl, sym, ◌∙◌, rules}
 use Rattle.shapes.specs.Questions.{Question, ask}
