@@ -1,5 +1,6 @@
 // The found windows, row by row: their flags name them, and nothing of them is compared. The refused windows' records
 // are left out, and where each row of windows begins is noted for them.
+// Across and down are written out here: so they are what the laws say, and no call's result stands between.
 ghost use Rattle.std.specs.Prelude.{◌≡◌, ◌+◌, ◌*◌, ◌≤◌, ◌<◌, length};
 ghost use Rattle.shapes.specs.Shapes.{across, down};
 ghost use Rattle.listing.specs.Entries.Put.{Heads, Puts, start_of};
@@ -7,7 +8,6 @@ ghost use Rattle.entries.specs.Listing.Offsets.{pair_places};
 ghost use Rattle.passes.specs.Windows.{Flagged};
 ghost use Rattle.passes.specs.Strips.{piece_of, FoundIn};
 
-// Across and down are written out here: so they are what the laws say, and no call's result stands between.
 use entries::entries::{strip_window, write_if_found};
 use entries::offsets::PairPlace;
 use placed::pattern::Pattern;
