@@ -13,12 +13,13 @@ use Rattle.searched.specs.Search.{count_said, count_done, count_of}
 
 module _ (q : Question) (w : Work) where
   -- refused before it begins
-  pub count_stopped : (why : Refusal) → refusal_said why ≡ room_said q (rooms_of w) → count_done (Err why) w ≡ count_of q w
+  pub count_stopped : (why : Refusal) → refusal_said why ≡ room_said q (rooms_of w)
+      → count_done (Err why) w ≡ count_of q w
   unfolding count_of count_said
   count_stopped why e = rw (← e)
 
   -- else counted
-  pub count_accepts : accepts [] ≡ room_said q (rooms_of w) → (totals : Totals ℕ) (after : Work) → after ≡ work_after q w
-      → totals ≡ totals_in q → count_done (Ok totals) after ≡ count_of q w
+  pub count_accepts : accepts [] ≡ room_said q (rooms_of w) → (totals : Totals ℕ) (after : Work)
+      → after ≡ work_after q w → totals ≡ totals_in q → count_done (Ok totals) after ≡ count_of q w
   unfolding count_of count_said
   count_accepts good totals after e t = rw (← good, e, t)

@@ -1,5 +1,6 @@
 // Document 02's R-1, count first: links, counts and flags as the search leaves them, the windows found and refused, and
 // the length that the listing will have.
+// Links, counts and flags are lent one by one: in one struct of `&mut` each clause would name them through old and new.
 ghost use Rattle.std.specs.Prelude.{◌≡◌, length};
 ghost use Rattle.theory.specs.Bytes.{Bytes};
 ghost use Rattle.shapes.specs.Questions.{ask, asked};

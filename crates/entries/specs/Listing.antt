@@ -83,4 +83,5 @@ entry_at text pattern v =
 
 -- the window at row top of the strip at column left
 abbrev pub window_of_strip : Shape → ℕ → ℕ → WindowPlace
-window_of_strip s left top = record { columns = s.columns; row = top; column = left; height = s.height; width = s.width }
+window_of_strip s left top =
+    record { columns = s.columns; row = top; column = left; height = s.height; width = s.width }

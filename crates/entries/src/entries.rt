@@ -33,8 +33,8 @@ pub fn strip_window(s: Shape, left: usize, top: usize) -> WindowPlace
     }
 }
 
-// The pairs of a found window, the pattern's symbols rising: each with the window's symbol at its first place. The table
-// has both at hand, so a pair is two reads, and no division is made.
+// The pairs of a found window, the pattern's symbols rising: each with the window's symbol at its first place. The
+// table has both at hand, so a pair is two reads, and no division is made.
 fn write_pairs<P: Pattern>(
     text: &[u8],
     v: WindowPlace,

@@ -1,13 +1,9 @@
 -- The listing in two passes: the found windows row by row, then the refused ones strip by strip; each at its place, so
 -- that together they are all windows in their order. And what the writing of one window asks.
 -- Assumes nothing.
-use Rattle.std.specs.Prelude.{◌≡◌, Bool, true, false, ◌⊎◌, eqb, get_or}
-use Rattle.std.proofs.Math.Path.{sym, ap, subst}
-use Rattle.std.proofs.Common.{◌∙◌, ap₂, ⊎_elim, arith, eq-eqb}
-use mathlib.Core.List.{List, ◌++◌}
-use Rattle.std.proofs.Math.Logic.{inl, inr}
-use Prim.Native.Nat.{ℕ, zero, suc, ◌+◌, ◌*◌, ◌≤◌, ◌<◌}
-use Rattle.std.proofs.Math.ListN.{length}
+use Rattle.std.specs.Prelude.{◌≡◌, Bool, true, false, List, ◌++◌, ◌⊎◌, ℕ, zero, suc, ◌+◌, ◌*◌, ◌≤◌, ◌<◌, eqb, length}
+use Rattle.std.specs.Prelude.{get_or}
+use Rattle.std.proofs.Common.{sym, ap, ap₂, subst, ◌∙◌, inl, inr, ⊎_elim, eq-eqb, arith}
 use Rattle.theory.specs.Test.{pick, Tested, holds, fails}
 use Rattle.theory.specs.Test.Laws.{eq_tested, pick_true}
 use Rattle.theory.specs.Join.{joined}
@@ -207,7 +203,8 @@ module _ (text pattern : List ℕ) (s : Shape) where
         rw (d, match_test text pattern s flags f.flags_are k h)
         (length_window (asked text pattern s) k)
 
-    pub found_length : (k : ℕ) → k < down s * across s → get_or flags k 0 ≡ 1 → size ≡ length (piece_of text pattern s k)
+    pub found_length : (k : ℕ) → k < down s * across s → get_or flags k 0 ≡ 1
+        → size ≡ length (piece_of text pattern s k)
     found_length k h e = sym (piece_length k h ∙ pick_true _ _ (eq-eqb _ _ e))
 
     -- at most 256 symbols are listed, so the place behind a window is a small number

@@ -1,5 +1,6 @@
 // The found windows, row by row: their flags name them, and nothing of them is compared. The refused windows' records
 // are left out, and where each row of windows begins is noted for them.
+// Across and down are written out here: so they are what the laws say, and no call's result stands between.
 ghost use Rattle.std.specs.Prelude.{◌≡◌, ◌+◌, ◌*◌, ◌≤◌, ◌<◌, length};
 ghost use Rattle.shapes.specs.Shapes.{across, down};
 ghost use Rattle.listing.specs.Entries.Put.{Heads, Puts, start_of};

@@ -2,18 +2,18 @@
 ghost use Rattle.std.specs.Prelude.{◌≡◌, length};
 ghost use Rattle.shapes.specs.Questions.{asked};
 ghost use Rattle.flags.specs.Flags.{RoomFor, rooms, working, work_after};
-ghost use Rattle.entries.specs.Listing.{found_in, refused_in, needed_length};
+ghost use Rattle.entries.specs.Listing.Totals.{totals_in};
 ghost use Rattle.searched.specs.Search.{done, lend, listed_of};
 ghost use Rattle.scaled.specs.Scaled.{scaled};
 ghost use Rattle.scaled.specs.Scaled.Fit.{PosedAt};
 
 use counting::count::count_laid;
+use listing::totals::Totals;
+use refusals::refusals::Refusal;
 use scaling::enlarging::enlarging;
 use scaling::fit::enlarged_shape;
 use search::search::search_windows;
-use searched::answer::Searched;
 use shapes::shapes::Shape;
-use totals::totals::Totals;
 
 // Count for the pattern enlarged k times.
 pub fn count_enlarged(
@@ -24,20 +24,18 @@ pub fn count_enlarged(
     links: &mut [u16],
     counts: &mut [u16],
     flags: &mut [u8],
-) -> Totals
+) -> Totals<u16>
     requires { PosedAt k (asked text.now pattern.now s)
         × RoomFor (scaled k (asked text.now pattern.now s))
         (rooms (length links.old) (length counts.old) (length flags.old)) }
-    ensures flags_after { working links.new counts.new flags.new
+    ensures buffers { working links.new counts.new flags.new
         ≡ work_after (scaled k (asked text.now pattern.now s))
         (working links.old counts.old flags.old) }
-    ensures found_value { (result.found ≡ found_in (scaled k (asked text.now pattern.now s)))
-        × (result.refused ≡ refused_in (scaled k (asked text.now pattern.now s)))
-        × (result.length ≡ needed_length (scaled k (asked text.now pattern.now s))) }
+    ensures totals { result ≡ totals_in (scaled k (asked text.now pattern.now s)) }
 {
-    let g = enlarging(s, k);
+    let laid = enlarging(pattern, s, k);
     let e = enlarged_shape(s, k);
-    count_laid(text, pattern, g, e, links, counts, flags)
+    count_laid(text, laid, e, links, counts, flags)
 }
 
 // The search for the pattern enlarged k times: 11, or the listing.
@@ -50,7 +48,7 @@ pub fn search_enlarged(
     counts: &mut [u16],
     flags: &mut [u8],
     listing: &mut [u8],
-) -> Searched
+) -> Result<Totals<u16>, Refusal>
     requires { PosedAt k (asked text.now pattern.now s)
         × RoomFor (scaled k (asked text.now pattern.now s))
         (rooms (length links.old) (length counts.old) (length flags.old)) }
@@ -58,7 +56,7 @@ pub fn search_enlarged(
         ≡ listed_of (scaled k (asked text.now pattern.now s))
         (lend links.old counts.old flags.old listing.old) }
 {
-    let g = enlarging(s, k);
+    let laid = enlarging(pattern, s, k);
     let e = enlarged_shape(s, k);
-    search_windows(text, pattern, g, e, links, counts, flags, listing)
+    search_windows(text, laid, e, links, counts, flags, listing)
 }

@@ -6,9 +6,9 @@ ghost use Rattle.searched.specs.Search.{done, lend};
 ghost use Rattle.scaled.specs.Scaled.{scaled_of};
 
 use crate::enlarged::search_enlarged;
-use refusals::refusals::Outcome;
+use listing::totals::Totals;
+use refusals::refusals::Refusal;
 use scaling::room::scaled_room_outcome;
-use searched::answer::Searched;
 use shapes::shapes::Shape;
 
 // Searches a text for a pattern of which each cell is drawn as scale by scale cells. Refused by 2 and 3, on the pattern
@@ -26,8 +26,8 @@ pub fn search_scaled(
     counts: &mut [u16],
     flags: &mut [u8],
     listing: &mut [u8],
-) -> Searched
-    ensures listing_after { done result (lend links.new counts.new flags.new listing.new)
+) -> Result<Totals<u16>, Refusal>
+    ensures answer { done result (lend links.new counts.new flags.new listing.new)
         ≡ scaled_of scale (ask text.now rows columns pattern.now height width)
         (lend links.old counts.old flags.old listing.old) }
     ensures bytes { Bytes text.now × Bytes pattern.now }
@@ -38,7 +38,7 @@ pub fn search_scaled(
         height,
         width,
     };
-    let outcome = scaled_room_outcome(
+    scaled_room_outcome(
         text,
         pattern,
         s,
@@ -46,11 +46,6 @@ pub fn search_scaled(
         links.len(),
         counts.len(),
         flags.len(),
-    );
-    match outcome {
-        Outcome::Refused(why) => Searched::Refused(why),
-        Outcome::Accepted => search_enlarged(
-            text, pattern, s, scale, links, counts, flags, listing,
-        ),
-    }
+    )?;
+    search_enlarged(text, pattern, s, scale, links, counts, flags, listing)
 }

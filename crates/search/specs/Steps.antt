@@ -2,8 +2,8 @@
 -- and what the second says and leaves in the listing.
 -- Assumes nothing.
 use Rattle.std.specs.Prelude.{◌≡◌, List, ℕ, length}
-use Rattle.std.proofs.Common.{ap, arith}
-use Rattle.refusals.specs.Said.{Filled, filled_by}
+use Rattle.std.proofs.Common.{arith}
+use Rattle.refusals.specs.Said.{filled_by}
 use Rattle.refusals.specs.Said.Laws.{same_said, same_buffer}
 use Rattle.shapes.specs.Questions.{Question, asked}
 use Rattle.shapes.specs.declared.shapes.Shape.{Shape}

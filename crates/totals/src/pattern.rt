@@ -1,4 +1,5 @@
 // What both steps of the search need to know of the pattern as it lies.
+// The symbols stand in an array with their number beside it: there is no heap for a list of them.
 ghost use Rattle.std.specs.Prelude.{◌≡◌};
 ghost use Rattle.sets.specs.Symbols.{symbols_of};
 ghost use Rattle.totals.specs.Pattern.{KnownOf};

@@ -42,7 +42,8 @@ pub record Unmatched (text : List ℕ) (v : WindowPlace) (pattern : List ℕ) : 
   pub none : answer_of (cell_of_pattern pattern) (window_of text v) (cell_count v) ≡ matched → ⊥
 
 -- a window with its flag, and the table that its pairs are read by
-pub record Answered (text : List ℕ) (v : WindowPlace) (pattern : List ℕ) (flag : ℕ) (pairs : List PairPlace) : Type 0 where
+pub record Answered (text : List ℕ) (v : WindowPlace) (pattern : List ℕ) (flag : ℕ) (pairs : List PairPlace)
+    : Type 0 where
   pub placed : Placed text v
   pub small : SmallPlace v
   pub size : length pattern ≡ cell_count v
@@ -83,7 +84,8 @@ module _ (text : List ℕ) (v : WindowPlace) (pattern : List ℕ) where
 
   -- the flag says which
   pub flag_matched :
-      (flag : ℕ) → flag ≡ pick (is_match (answer_of (cell_of_pattern pattern) (window_of text v) (cell_count v))) 1 0 → flag ≡ 1
+      (flag : ℕ) → flag ≡ pick (is_match (answer_of (cell_of_pattern pattern) (window_of text v) (cell_count v))) 1 0
+      → flag ≡ 1
       → answer_of (cell_of_pattern pattern) (window_of text v) (cell_count v) ≡ matched
   flag_matched flag e d = go (answer_of (cell_of_pattern pattern) (window_of text v) (cell_count v)) (sym e ∙ d)
     where

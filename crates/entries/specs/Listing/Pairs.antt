@@ -58,4 +58,5 @@ module _ (f : ℕ → ℕ) (xs : List ℕ) (k : ℕ) where
   pub pairs_over : length xs ≤ k → pair_bytes f (drop k xs) ≡ []
   unfolding pair_bytes
   pairs_over h =
-      ap (λ (ys : List ℕ). bytes_all (pairs_of f ys)) (drop_of_length-le xs h) ∙ ap bytes_all (pairs_none f) ∙ bytes_none
+      ap (λ (ys : List ℕ). bytes_all (pairs_of f ys)) (drop_of_length-le xs h)
+      ∙ ap bytes_all (pairs_none f) ∙ bytes_none

@@ -1,7 +1,8 @@
 -- The totals of a search from its flags: as many ones as windows that match, as many others as windows that do not, and
 -- together all windows.
 -- Assumes nothing.
-use Rattle.std.specs.Prelude.{◌≡◌, refl, Bool, true, false, not, List, ℕ, zero, suc, ◌+◌, ◌-◌, ◌*◌, ◌≤◌, ◌<◌, eqb, length}
+use Rattle.std.specs.Prelude.{◌≡◌, refl, Bool, true, false, not, List, ℕ}
+use Rattle.std.specs.Prelude.{zero, suc, ◌+◌, ◌-◌, ◌*◌, ◌≤◌, ◌<◌, eqb, length}
 use Rattle.std.specs.Prelude.{get_or, take, count_by}
 use Rattle.std.proofs.Common.{ap, ◌∙◌, add-one, eq-eqb, ne_eqb, arith}
 use Rattle.std.proofs.lemmas.List.Sums.{count_by_more_yes, count_by_more_no}

@@ -1,5 +1,5 @@
--- `count::count_flagged` meets its contract: the flags that are left are the truth (`flags_after_true`), so their totals
--- are the windows' (`totalled`).
+-- `count::count_flagged` meets its contract: the flags that are left are the truth (`flags_after_true`), so their
+-- totals are the windows' (`totalled`).
 -- Assumes nothing.
 use Rattle.std.proofs.Common.{◌∙◌, arith}
 use Rattle.flags.specs.Flags.{working}

@@ -13,7 +13,8 @@ use Rattle.entries.proofs.entries.write_pairs.Goals.{In-loop-place}
 -- its cell lies in the text
 inside : (g : _) (c : In-loop-place g) →
     let a = c.args in
-    a.v.row * a.v.columns + a.v.column + (get_or a.pairs.now c.loop-place.place-index no_pair).offset < length a.text.now
+    a.v.row * a.v.columns + a.v.column + (get_or a.pairs.now c.loop-place.place-index no_pair).offset
+    < length a.text.now
 inside g c = pair_inside _ _ _ _ c.requires.2 _ c.loop-place-test.true c.requires.0 c.requires.1
 
 -- there is a symbol for the pair
@@ -49,7 +50,8 @@ loop-place-preserved g c =
     let h = c.loop-place-test.true in
     pair_less _ _ l.place-index _ _ l.listing l.end l.invariant
     (symbol g (goal.at.loop-place-preserved g c).In-loop-place) _ _
-    (ap (λ p. p.symbol) (pair_at a.text.now a.v _ _ c.requires.2 _ h)) (pair_reads a.text.now a.v _ _ c.requires.2 _ h) _ _
+    (ap (λ p. p.symbol) (pair_at a.text.now a.v _ _ c.requires.2 _ h))
+    (pair_reads a.text.now a.v _ _ c.requires.2 _ h) _ _
     c.write_record-end.ensures.listing_after c.write_record-end.ensures.value
 
 pub returns : goal.returns
