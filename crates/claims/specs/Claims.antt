@@ -3,27 +3,29 @@
 -- crate rules.
 -- Assumes nothing.
 pub mod Standing
-use Rattle.std.specs.Prelude.{Bool, true, false, not, List, [], ◌∷◌, ℕ, ◌+◌, ◌*◌, eqb, ltb, get_or}
+use Rattle.std.specs.Prelude.{Result, Bool, true, false, not, List, [], ◌∷◌, ℕ, ◌+◌, ◌*◌, eqb, ltb, get_or}
 use Rattle.theory.specs.Test.{pick, both}
 use Rattle.theory.specs.First.{every}
 use Rattle.occurrences.specs.Distinct.{contains}
 use Rattle.refusals.specs.declared.refusals.Refusal.{Refusal}
 use Rattle.refusals.specs.declared.refusals.Refusal.TheVariants.{ListingForm, ListingFalse}
 use Rattle.reading.specs.Reader.{whole_at}
-use Rattle.claims.specs.declared.walks.Walk.{Walk}
-use Rattle.claims.specs.declared.walks.Walk.TheVariants.{Goes, Stops}
+use Rattle.std.specs.Prelude.{Ok, Err}
 
--- ---- a walk: `Goes at`, every record so far is right and the next one begins there; or `Stops why`, at the first bad
+-- ---- a walk: `Ok at`, every record so far is right and the next one begins there; or `Err why`, at the first bad
 -- one
+
+abbrev pub Walk : Type 0
+Walk = Result ℕ Refusal
 
 -- it stops unless the test passes, and otherwise goes on with what comes after
 abbrev pub or_stop : Bool → Refusal → Walk → Walk
-or_stop ok why after = pick ok after (Stops why)
+or_stop ok why after = pick ok after (Err why)
 
 -- what comes after, from the place that was reached
 abbrev pub onward : Walk → (ℕ → Walk) → Walk
-onward (Goes at) after = after at
-onward (Stops why) after = Stops why
+onward (Ok at) after = after at
+onward (Err why) after = Err why
 
 -- ---- one record
 
@@ -65,7 +67,7 @@ true_mismatch_test side m w height width i j k l =
 
 -- the pairs of a found window, one for each of these symbols; the window's symbols of the pairs before them are given
 unfoldable pub pairs_from : (ℕ → ℕ) → (ℕ → ℕ) → ℕ → List ℕ → List ℕ → List ℕ → ℕ → Walk
-pairs_from m w n listing [] given at = Goes at
+pairs_from m w n listing [] given at = Ok at
 pairs_from m w n listing (a ∷ symbols) given at =
     or_stop (stands listing 2 at) (ListingForm at)
     (or_stop (right_pair m w n listing a given at) (ListingFalse at)

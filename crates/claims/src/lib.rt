@@ -3,4 +3,3 @@
 #![tactic(auto)]
 
 pub mod mismatches;
-pub mod walks;

@@ -2,7 +2,7 @@
 ghost use Rattle.std.specs.Prelude.{◌≤◌, length};
 
 use crate::output::{print_counts, print_listing, print_refusal, print_totals};
-use rules::checked::Checked;
+use rules::checked::Tally;
 use search::search::search;
 use searched::answer::Searched;
 use std::io;
@@ -86,7 +86,7 @@ pub fn run_check(
 ) -> io::Result<()> {
     let answer = check(text, rows, columns, pattern, height, width, listing);
     match answer {
-        Checked::Kept { found, refused } => print_counts(rt, found, refused),
-        Checked::Refused(why) => print_refusal(rt, why),
+        Ok(Tally { found, refused }) => print_counts(rt, found, refused),
+        Err(why) => print_refusal(rt, why),
     }
 }

@@ -6,16 +6,17 @@ use Rattle.std.specs.Prelude.{List, [], ◌∷◌, ℕ, take, drop}
 use Rattle.refusals.specs.Said.{Said, accepts, refuses, said_values}
 use Rattle.listing.specs.Records.{record_from_bytes}
 use Rattle.listing.specs.declared.records.Record.{Record}
-use Rattle.listing.specs.declared.records.Record.TheVariants.{Found, Pair, AlikeInPattern, AlikeInWindow, Closing}
+use Rattle.listing.specs.declared.records.Record.TheVariants.{Found, Pair, Mismatch, Closing}
+use Rattle.listing.specs.declared.records.Side.TheVariants.{Pattern, Window}
 
 -- a record's numbers
 abbrev pub fields_of : Record → List ℕ
 fields_of (Found row column) = 1 ∷ row ∷ column ∷ 0 ∷ 0 ∷ 0 ∷ 0 ∷ []
 fields_of (Pair pattern text) = 2 ∷ pattern ∷ text ∷ 0 ∷ 0 ∷ 0 ∷ 0 ∷ []
-fields_of (AlikeInPattern b) =
+fields_of (Mismatch Pattern b) =
     3 ∷ b.window.row ∷ b.window.column ∷ b.earlier.row ∷ b.earlier.column ∷ b.later.row ∷ b.later.column
     ∷ []
-fields_of (AlikeInWindow b) =
+fields_of (Mismatch Window b) =
     4 ∷ b.window.row ∷ b.window.column ∷ b.earlier.row ∷ b.earlier.column ∷ b.later.row ∷ b.later.column
     ∷ []
 fields_of (Closing found refused) = 5 ∷ found ∷ refused ∷ 0 ∷ 0 ∷ 0 ∷ 0 ∷ []

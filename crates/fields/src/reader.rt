@@ -6,64 +6,56 @@ ghost use Rattle.refusals.specs.Refusals.{value_or_given};
 ghost use Rattle.fields.specs.Reader.{fields_of, fields_by};
 
 use listing::records::Record;
-use reading::reader::Read;
-use refusals::refusals::{refusal_number, value_or};
+use reading::reader::Cursor;
+use refusals::refusals::{Refusal, refusal_number, value_or};
 
 // The numbers of a record: its kind, then those of its body, and 0 for what it does not have.
 pub fn fields_of(item: Record) -> [u16; 7]
     ensures { result ≡ fields_of item }
 {
+    let kind = u16::from(u8::from(item.kind()));
     match item {
-        Record::Found { row, column } => [1, row as u16, column as u16, 0, 0, 0, 0],
-        Record::Pair { pattern, text } => [2, pattern as u16, text as u16, 0, 0, 0, 0],
-        Record::AlikeInPattern(b) => [
-            3,
-            b.window.row as u16,
-            b.window.column as u16,
-            b.earlier.row as u16,
-            b.earlier.column as u16,
-            b.later.row as u16,
-            b.later.column as u16,
+        Record::Found { row, column } => [kind, u16::from(row), u16::from(column), 0, 0, 0, 0],
+        Record::Pair { pattern, text } => [kind, u16::from(pattern), u16::from(text), 0, 0, 0, 0],
+        Record::Mismatch { alike: _, body } => [
+            kind,
+            u16::from(body.window.row),
+            u16::from(body.window.column),
+            u16::from(body.earlier.row),
+            u16::from(body.earlier.column),
+            u16::from(body.later.row),
+            u16::from(body.later.column),
         ],
-        Record::AlikeInWindow(b) => [
-            4,
-            b.window.row as u16,
-            b.window.column as u16,
-            b.earlier.row as u16,
-            b.earlier.column as u16,
-            b.later.row as u16,
-            b.later.column as u16,
-        ],
-        Record::Closing { found, refused } => [5, found, refused, 0, 0, 0, 0],
+        Record::Closing { found, refused } => [kind, found, refused, 0, 0, 0, 0],
     }
 }
 
 // The number of an answer.
-pub fn read_number(answer: Read) -> u8
+pub fn read_number(answer: Result<(Record, Cursor), Refusal>) -> u8
     ensures { result ≡ said_number (read_said answer) }
 {
     match answer {
-        Read::Whole(_, _) => 0,
-        Read::Refused(why) => refusal_number(why),
+        Ok(_) => 0,
+        Err(why) => refusal_number(why),
     }
 }
 
 // The fields after an answer: its record's, or else what stood there.
-pub fn read_fields(answer: Read, old: [u16; 7]) -> [u16; 7]
+pub fn read_fields(answer: Result<(Record, Cursor), Refusal>, old: [u16; 7]) -> [u16; 7]
     ensures { result ≡ fields_by (read_said answer) old }
 {
     match answer {
-        Read::Whole(item, _) => fields_of(item),
-        Read::Refused(_) => old,
+        Ok((item, _)) => fields_of(item),
+        Err(_) => old,
     }
 }
 
 // The place that an answer returns: after its record, or the refusal's.
-pub fn read_place(answer: Read, old: usize) -> usize
+pub fn read_place(answer: Result<(Record, Cursor), Refusal>, old: usize) -> usize
     ensures { result ≡ value_or_given (said_values (read_said answer)) old }
 {
     match answer {
-        Read::Whole(_, next) => next.at,
-        Read::Refused(why) => value_or(why, old),
+        Ok((_, next)) => next.at,
+        Err(why) => value_or(why, old),
     }
 }

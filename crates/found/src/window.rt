@@ -10,12 +10,12 @@ ghost use Rattle.pairs.specs.Pairs.{FoundWindow, Marked, PairRead};
 
 use carrying::carries::carries;
 use cells::windows::WindowPlace;
-use claims::walks::Walk;
 use inheriting::offsets::{image_behind, make_offsets};
-use listing::records::Record;
+use inheriting::tables::Tables;
+use listing::records::{Kind, Record};
 use matching::compare::symbol_at;
 use pairs::plain::plain_pairs;
-use reading::reader::{Cursor, Read};
+use reading::reader::Cursor;
 use refusals::refusals::Refusal;
 
 // Whether the window has b in every cell where the pattern has a: the long way, cell by cell.
@@ -23,14 +23,10 @@ fn all_cells_have(text: &[u8], v: WindowPlace, pattern: &[u8], a: u8, b: u8) -> 
     requires { Placed text.now v × (length pattern.now ≡ cell_count v) }
     ensures { result ≡ has_image_test (cell_of_pattern pattern.now) (window_of text.now v) (cell_count v) a b }
 {
-    let mut p = 0;
-    while p < pattern.len() {
-        if pattern[p] == a {
-            if symbol_at(text, v, p) != b {
-                return false;
-            }
+    for (p, x) in pattern.iter().enumerate() {
+        if *x == a && symbol_at(text, v, p) != b {
+            return false;
         }
-        p += 1;
     }
     true
 }
@@ -43,7 +39,7 @@ fn has_image(
     pattern: &[u8],
     carried: bool,
     corner: usize,
-    offsets: &[usize; 257],
+    offsets: &[usize; 256],
     a: u8,
     b: u8,
 ) -> bool
@@ -64,41 +60,41 @@ fn check_pair(
     pattern: &[u8],
     carried: bool,
     corner: usize,
-    offsets: &[usize; 257],
+    offsets: &[usize; 256],
     base: u32,
     given: &mut [u32; 256],
     a: u8,
     listing: &[u8],
     at: usize,
-) -> Walk
-    requires { FoundWindow text.now v pattern.now carried corner offsets.now × (contains pattern.now a ≡ true)
-        × (length given.old ≡ 256) }
+) -> Result<usize, Refusal>
+    requires { FoundWindow text.now v pattern.now carried corner offsets.now × (contains pattern.now a ≡ true) }
     ensures { (before : List ℕ) → Marked base before given.old
         → PairRead (cell_of_pattern pattern.now) (window_of text.now v) (cell_count v)
         listing.now a base at before result given.new }
 {
     let cursor = Cursor { at };
-    let Read::Whole(item, next) = cursor.read_pair_first(listing) else {
-        return Walk::Stops(Refusal::ListingForm(at));
+    let Ok((item, next)) = cursor.read_first(listing, Kind::Pair) else {
+        return Err(Refusal::ListingForm(at));
     };
     let Record::Pair {
         pattern: x,
         text: y,
     } = item
     else {
-        return Walk::Stops(Refusal::ListingForm(at));
+        return Err(Refusal::ListingForm(at));
     };
     if x != a {
-        return Walk::Stops(Refusal::ListingFalse(at));
+        return Err(Refusal::ListingFalse(at));
     }
-    if given[y as usize] == base {
-        return Walk::Stops(Refusal::ListingFalse(at));
+    let place = usize::from(y);
+    if given[place] == base {
+        return Err(Refusal::ListingFalse(at));
     }
     if !has_image(text, v, pattern, carried, corner, offsets, a, y) {
-        return Walk::Stops(Refusal::ListingFalse(at));
+        return Err(Refusal::ListingFalse(at));
     }
-    given[y as usize] = base;
-    Walk::Goes(next.at)
+    given[place] = base;
+    Ok(next.at)
 }
 
 // A pair for each symbol of the pattern, rising: the plain ones first. The symbols are listed once for all windows.
@@ -108,35 +104,30 @@ fn check_pairs(
     pattern: &[u8],
     carried: bool,
     corner: usize,
-    offsets: &[usize; 257],
+    offsets: &[usize; 256],
     base: u32,
     given: &mut [u32; 256],
     symbols: &[u8],
     listing: &[u8],
     at: usize,
-) -> Walk
+) -> Result<usize, Refusal>
     requires { FoundWindow text.now v pattern.now carried corner offsets.now × (symbols.now ≡ symbols_of pattern.now)
         × Older base given.old }
-    ensures value { result ≡ pairs_from (cell_of_pattern pattern.now) (window_of text.now v) (cell_count v)
+    ensures answer { result ≡ pairs_from (cell_of_pattern pattern.now) (window_of text.now v) (cell_count v)
         listing.now (symbols_of pattern.now) [] at }
     ensures older { Older (base + 256) given.new }
 {
-    let mut i = plain_pairs(
+    let plain = plain_pairs(
         text, carried, corner, offsets, base, given, symbols, listing, at,
     );
-    let mut end = at + 3 * i;
-    while i < symbols.len() {
+    let mut end = at + 3 * plain;
+    for i in plain..symbols.len() {
         let a = symbols[i];
-        let step = check_pair(
+        end = check_pair(
             text, v, pattern, carried, corner, offsets, base, given, a, listing, end,
-        );
-        let Walk::Goes(next) = step else {
-            return step;
-        };
-        end = next;
-        i += 1;
+        )?;
     }
-    Walk::Goes(end)
+    Ok(end)
 }
 
 // The pairs of a window that stands as found: its new rows are gone through once, before the pairs.
@@ -146,32 +137,56 @@ pub fn found_pairs(
     pattern: &[u8],
     symbols: &[u8],
     base: u32,
-    given: &mut [u32; 256],
-    offsets: &mut [usize; 257],
-    selves: &mut [usize; 256],
-    tops: &mut [usize; 256],
+    tables: &mut Tables,
     listing: &[u8],
     at: usize,
-) -> Walk
+) -> Result<usize, Refusal>
     requires { Placed text.now v × (length pattern.now ≡ cell_count v) × (symbols.now ≡ symbols_of pattern.now)
-        × Older base given.old
-        × CheckTables text.now pattern.now v.columns v.height v.width offsets.old selves.old
-        tops.old }
-    ensures value { result ≡ pairs_from (cell_of_pattern pattern.now) (window_of text.now v) (cell_count v)
+        × Older base tables.old.given
+        × CheckTables text.now pattern.now v.columns v.height v.width tables.old }
+    ensures answer { result ≡ pairs_from (cell_of_pattern pattern.now) (window_of text.now v) (cell_count v)
         listing.now (symbols_of pattern.now) [] at }
-    ensures older { Older (base + 256) given.new }
-    ensures check_tables { CheckTables text.now pattern.now v.columns v.height v.width offsets.new
-        selves.new tops.new }
+    ensures older { Older (base + 256) tables.new.given }
+    ensures check_tables { CheckTables text.now pattern.now v.columns v.height v.width tables.new }
 {
-    let columns = v.columns;
-    let height = v.height;
-    let width = v.width;
-    let row = v.row;
-    let column = v.column;
+    let WindowPlace {
+        columns,
+        row,
+        column,
+        height,
+        width,
+    } = v;
     let corner = row * columns + column;
-    make_offsets(pattern, symbols, columns, height, width, offsets);
-    let carried = carries(text, v, pattern, offsets, selves, tops);
+    make_offsets(
+        pattern,
+        symbols,
+        columns,
+        height,
+        width,
+        &mut tables.offsets,
+    );
+    let Some(offsets) = &tables.offsets else {
+        unreachable!()
+    };
+    let carried = carries(
+        text,
+        v,
+        pattern,
+        offsets,
+        &mut tables.selves,
+        &mut tables.tops,
+    );
     check_pairs(
-        text, v, pattern, carried, corner, offsets, base, given, symbols, listing, at,
+        text,
+        v,
+        pattern,
+        carried,
+        corner,
+        offsets,
+        base,
+        &mut tables.given,
+        symbols,
+        listing,
+        at,
     )
 }

@@ -32,7 +32,7 @@ use Rattle.listing.specs.Entries.Laws.{bytes_append, entry_found, entry_refused,
 use Rattle.listing.specs.Records.Lengths.{length-joined, length_closing}
 use Rattle.listing.specs.declared.records.Record.{Record}
 use Rattle.listing.specs.declared.records.Record.TheVariants.{Found, Closing}
-use Rattle.reading.specs.declared.reader.Read.TheVariants.{Whole}
+use Rattle.std.specs.Prelude.{Ok, Err}
 use Rattle.entries.specs.Listing.{listing_length}
 use Rattle.guarantee.specs.Demand3.{times_found, times_refused, Shown, as_found, as_refused, records_of, Shows}
 use Rattle.guarantee.specs.Demand3.{Demand3}
@@ -184,7 +184,7 @@ module _ (q : Question) (listing : List ℕ) (found refused : ℕ)
 
   -- reading it where a record begins gives the record, and the place where the next one begins
   pub reads_records : (before after : List Record) (r : Record) → records ≡ before ++ (r ∷ after)
-      → read_said (Whole r (record { at = length (bytes_all before) + length (bytes_of r) }))
+      → read_said (Ok (r, record { at = length (bytes_all before) + length (bytes_of r) }))
       ≡ cursor_said listing (length (bytes_all before))
   reads_records before after r e = rw (shows.bytes_are, e) (records_read before after r)
 

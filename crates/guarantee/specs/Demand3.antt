@@ -20,7 +20,7 @@ use Rattle.entries.specs.Listing.{verdict_records}
 use Rattle.searched.specs.Search.{Lent, done, search_of, list_done, list_of}
 use Rattle.searched.specs.declared.answer.Searched.TheVariants.{Listed}
 use Rattle.rules.specs.Check.{checked_said, check_of}
-use Rattle.rules.specs.declared.checked.Checked.TheVariants.{Kept}
+use Rattle.rules.specs.Check.{kept}
 use Rattle.theory.specs.Test.{pick, both}
 use Rattle.theory.specs.Join.{joined}
 use Rattle.theory.specs.Count.{count}
@@ -28,7 +28,8 @@ use Rattle.cells.specs.Windows.{corner_row, corner_column}
 use Rattle.occurrences.specs.Distinct.{distinct}
 use Rattle.listing.specs.Entries.{bytes_all, pairs_of, mismatch_body_at, mismatch_record, RightPairs}
 use Rattle.listing.specs.declared.records.MismatchBody.{MismatchBody}
-use Rattle.listing.specs.declared.records.Record.TheVariants.{Found, Pair, AlikeInPattern, AlikeInWindow, Closing}
+use Rattle.listing.specs.declared.records.Record.TheVariants.{Found, Pair, Closing}
+use Rattle.listing.specs.declared.records.Record.TheVariants.{Mismatch as MismatchRecord}
 
 -- ---- how a window stands in records
 
@@ -36,8 +37,7 @@ use Rattle.listing.specs.declared.records.Record.TheVariants.{Found, Pair, Alike
 abbrev pub names_found : ℕ → ℕ → Record → Bool
 names_found row column (Found r c) = both (eqb r row) (eqb c column)
 names_found row column (Pair a b) = false
-names_found row column (AlikeInPattern body) = false
-names_found row column (AlikeInWindow body) = false
+names_found row column (MismatchRecord alike body) = false
 names_found row column (Closing a b) = false
 
 -- a body of a mismatch names it
@@ -48,8 +48,7 @@ names_window row column body = both (eqb body.window.row row) (eqb body.window.c
 abbrev pub names_refused : ℕ → ℕ → Record → Bool
 names_refused row column (Found r c) = false
 names_refused row column (Pair a b) = false
-names_refused row column (AlikeInPattern body) = names_window row column body
-names_refused row column (AlikeInWindow body) = names_window row column body
+names_refused row column (MismatchRecord alike body) = names_window row column body
 names_refused row column (Closing a b) = false
 
 -- how many records pass a test
@@ -128,7 +127,7 @@ Demand3 q listing found refused = (entry : ℕ → ℕ → List Record) × Shows
 abbrev pub OfTheCheck : Type 0
 OfTheCheck =
     (q : Question) (listing : List ℕ) (found refused : ℕ)
-    → checked_said (Kept found refused) ≡ check_of q listing
+    → checked_said (kept found refused) ≡ check_of q listing
     → Bytes q.pattern.cells × Bytes listing
     → Demand3 q listing found refused
 

@@ -26,8 +26,8 @@ use Rattle.scaled.specs.Theorems.{scaled-part, every_listed_lem, every_part}
 use Rattle.scaled.specs.declared.answer.Summed.TheVariants as Sums
 use Rattle.rules.specs.Check.{checked_said, check_of}
 use Rattle.rules.proofs.Theorems.{accepts_all}
-use Rattle.rules.specs.declared.checked.Checked.{Checked}
-use Rattle.rules.specs.declared.checked.Checked.TheVariants.{Kept}
+use Rattle.rules.specs.Check.{Checked}
+use Rattle.rules.specs.Check.{kept}
 use Rattle.guarantee.specs.Demand3.{times_found, records_of, Shows, ListsAnswers}
 use Rattle.guarantee.specs.Corollaries.{found_columns}
 use Rattle.guarantee.specs.Theorems.{search_entries, written_keeps, written_shows}
@@ -108,7 +108,7 @@ scaled_demand_3 = (at_k, at_every)
 
 pub scaled_then_check : (k : ℕ) (q : Question) (l after : Lent) (found refused size : ℕ)
     → done (Listed found refused size) after ≡ scaled_of k q l → Bytes q.pattern.cells
-    → (r : Checked) → checked_said r ≡ check_of (scaled k q) (take size after.listing) → r ≡ Kept found refused
+    → (r : Checked) → checked_said r ≡ check_of (scaled k q) (take size after.listing) → r ≡ kept found refused
 scaled_then_check k q l after found refused size is bytes r checks =
     accepts_all (scaled k q) (take size after.listing) r checks (enlarged_bytes k q.pattern bytes) found refused (
       search_entries (scaled k q),
@@ -120,7 +120,7 @@ pub every_then_check : (q : Question) (l after : Lent) (found refused size : ℕ
     → summed (Sums.Listed found refused size) after ≡ every_of q l → Bytes q.pattern.cells
     → (k : ℕ) → k + 1 ≤ largest_of q
     → (r : Checked) → checked_said r ≡ check_of (scaled (k + 1) q) (listing_after q k after.listing)
-    → r ≡ Kept (found_in (scaled (k + 1) q)) (refused_in (scaled (k + 1) q))
+    → r ≡ kept (found_in (scaled (k + 1) q)) (refused_in (scaled (k + 1) q))
 every_then_check q l after found refused size is bytes k high r checks =
     accepts_all (scaled (k + 1) q) (listing_after q k after.listing) r checks
     (enlarged_bytes (k + 1) q.pattern bytes) (found_in (scaled (k + 1) q)) (refused_in (scaled (k + 1) q)) (

@@ -26,8 +26,8 @@ use Rattle.searched.specs.declared.answer.Searched.TheVariants.{Listed}
 use Rattle.rules.specs.Check.{checked_said, check_of}
 use Rattle.rules.specs.Rules.{TrueOf, Entries, records_to, Keeps}
 use Rattle.rules.proofs.Theorems.{accepts_all, accepts_only}
-use Rattle.rules.specs.declared.checked.Checked.{Checked}
-use Rattle.rules.specs.declared.checked.Checked.TheVariants.{Kept}
+use Rattle.rules.specs.Check.{Checked}
+use Rattle.rules.specs.Check.{kept}
 use Rattle.guarantee.specs.Demand3.{times_found, records_of, Shows, ListsAnswers, OfTheCheck, OfTheSearch}
 use Rattle.guarantee.specs.Demand3.{OfTheList}
 use Rattle.guarantee.specs.Corollaries.{found_columns}
@@ -102,7 +102,7 @@ demand_3 = (checked, searched, listed)
   where
     checked : OfTheCheck
     checked q listing found refused checks (pattern_bytes, listing_bytes) =
-        let k = accepts_only q listing (Kept found refused) checks pattern_bytes listing_bytes found refused refl in (
+        let k = accepts_only q listing (kept found refused) checks pattern_bytes listing_bytes found refused refl in (
           entry_shown q listing found refused k.0 k.1 pattern_bytes,
           keeps_shows q listing found refused k.0
               k.1 pattern_bytes,
@@ -121,7 +121,7 @@ demand_3 = (checked, searched, listed)
 -- what the search writes, the check accepts, with the same counts
 pub search_then_check : (q : Question) (l after : Lent) (found refused size : ℕ)
     → done (Listed found refused size) after ≡ search_of q l → Bytes q.pattern.cells
-    → (r : Checked) → checked_said r ≡ check_of q (take size after.listing) → r ≡ Kept found refused
+    → (r : Checked) → checked_said r ≡ check_of q (take size after.listing) → r ≡ kept found refused
 search_then_check q l after found refused size searches bytes r checks =
     accepts_all q (take size after.listing) r checks bytes found refused (
       search_entries q,
@@ -132,7 +132,7 @@ search_then_check q l after found refused size searches bytes r checks =
 -- and what List writes
 pub list_then_check : (q : Question) (flags old after : List ℕ) (found refused size : ℕ)
     → list_done (Listed found refused size) after ≡ list_of q flags old → Bytes q.pattern.cells
-    → (r : Checked) → checked_said r ≡ check_of q (take size after) → r ≡ Kept found refused
+    → (r : Checked) → checked_said r ≡ check_of q (take size after) → r ≡ kept found refused
 list_then_check q flags old after found refused size lists bytes r checks =
     accepts_all q (take size after) r checks bytes found refused (
       search_entries q,
@@ -143,7 +143,7 @@ list_then_check q flags old after found refused size lists bytes r checks =
 -- document 01's renaming, from what the operations ensure alone: a window stands as found exactly if two columns that
 -- agree carry the pattern onto it
 pub checked_columns : (q : Question) (listing : List ℕ) (found refused : ℕ)
-    (checks : checked_said (Kept found refused) ≡ check_of q listing)
+    (checks : checked_said (kept found refused) ≡ check_of q listing)
     (bytes : Bytes q.text.cells × Bytes q.pattern.cells × Bytes listing)
     (row column : ℕ) → CornerIn q row column
     → (times_found (records_of q (demand_3.0 q listing found refused checks (bytes.1, bytes.2)).0 found refused) row column ≡ 1)

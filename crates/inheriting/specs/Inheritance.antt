@@ -5,13 +5,14 @@
 -- is carried is kept for each column.
 -- Assumes nothing.
 pub mod Laws
-use Rattle.std.specs.Prelude.{◌≡◌, List, ℕ, ◌-◌, ◌*◌, ◌≤◌, ◌<◌, length, get_or}
+use Rattle.std.specs.Prelude.{◌≡◌, List, ℕ, ◌-◌, ◌*◌, ◌≤◌, ◌<◌, length, get_or, Option, Some, None}
 use Rattle.theory.specs.Match.{first_end}
 use Rattle.cells.specs.Windows.{window_at}
 use Rattle.matching.specs.Compare.{cell_of_pattern}
 use Rattle.prefixes.specs.Prefixes.{suffix}
 use Rattle.sweep.specs.Sweep.{SidesOf}
 use Rattle.inheriting.specs.Offsets.{Prepared}
+use Rattle.inheriting.specs.declared.tables.Tables.{Tables}
 
 -- What the inner functions' contracts cite.
 
@@ -23,11 +24,11 @@ pub record Follows (m w : ℕ → ℕ) (n : ℕ) : Type 0 where
 abbrev pub own_end_of : List ℕ → ℕ → ℕ
 own_end_of pattern d = first_end (cell_of_pattern pattern) (suffix (cell_of_pattern pattern) d) (length pattern - d)
 
--- for each column one more than the row of a window there that follows the pattern, or 0 for none
-pub record Tops (text pattern : List ℕ) (columns height width : ℕ) (tops : List ℕ) : Type 0 where
+-- for each column the row of a window there that follows the pattern, or none
+pub record Tops (text pattern : List ℕ) (columns height width : ℕ) (tops : List (Option ℕ)) : Type 0 where
   pub long : length tops ≡ 256
-  pub each : (j : ℕ) → 0 < get_or tops j 0
-      → Follows (cell_of_pattern pattern) (window_at text columns (get_or tops j 0 - 1) j width) (height * width)
+  pub each : (j row : ℕ) → get_or tops j None ≡ Some row
+      → Follows (cell_of_pattern pattern) (window_at text columns row j width) (height * width)
 
 -- the pattern's own ends, row by row
 pub record OwnEndsMade (pattern : List ℕ) (height width : ℕ) (selves : List ℕ) : Type 0 where
@@ -40,13 +41,14 @@ pub record OwnEndsIfMade (pattern : List ℕ) (height width : ℕ) (selves : Lis
   pub made : 0 < get_or selves 0 0 → OwnEndsMade pattern height width selves
 
 -- what the windows so far leave to those below them
-pub record Above (text pattern : List ℕ) (columns height width : ℕ) (selves tops : List ℕ) : Type 0 where
-  pub sides : SidesOf pattern height width
-  pub narrow : columns ≤ 255
-  pub tops_are : Tops text pattern columns height width tops
-  pub owned : OwnEndsIfMade pattern height width selves
+pub record Above (text pattern : List ℕ) (columns height width : ℕ) (selves : List ℕ) (tops : List (Option ℕ)) : Type 0
+  where
+    pub sides : SidesOf pattern height width
+    pub narrow : columns ≤ 255
+    pub tops_are : Tops text pattern columns height width tops
+    pub owned : OwnEndsIfMade pattern height width selves
 
 -- what the tables say that are lent from window to window: those of the windows above, and the offsets
-pub record CheckTables (text pattern : List ℕ) (columns height width : ℕ) (offsets selves tops : List ℕ) : Type 0 where
-  pub above : Above text pattern columns height width selves tops
-  pub prepared : Prepared pattern columns width offsets
+pub record CheckTables (text pattern : List ℕ) (columns height width : ℕ) (tables : Tables) : Type 0 where
+  pub above : Above text pattern columns height width tables.selves tables.tops
+  pub prepared : Prepared pattern columns width tables.offsets

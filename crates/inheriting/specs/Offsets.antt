@@ -2,7 +2,7 @@
 -- for all windows, so a window's symbol in that place, the symbol's image, is one read of the text.
 -- Assumes nothing.
 pub mod Laws
-use Rattle.std.specs.Prelude.{◌≡◌, List, ℕ, ◌+◌, ◌*◌, ◌<◌, length, get_or}
+use Rattle.std.specs.Prelude.{◌≡◌, List, ℕ, ◌+◌, ◌*◌, ◌<◌, length, get_or, Option, Some}
 use Rattle.matching.specs.Compare.{cell_of_pattern}
 use Rattle.prefixes.specs.State.{FirstPlaces}
 use Rattle.cells.specs.Windows.{offset_of}
@@ -20,22 +20,27 @@ image_from_behind text corner offsets a = get_or text (corner + get_or offsets a
 pub record Offsets (pattern : List ℕ) (columns width : ℕ) (offsets : List ℕ) : Type 0 where
   pub first : List ℕ
   pub places : FirstPlaces (cell_of_pattern pattern) (length pattern) first
-  pub long : length offsets ≡ 257
+  pub long : length offsets ≡ 256
   pub lead : (p : ℕ) → p < length pattern
       → get_or offsets (get_or pattern p 0) 0 ≡ offset_of columns width (get_or first (get_or pattern p 0) 0)
 
--- they are made where entry 256, which is no symbol's, is not 0, and else not yet
-pub record Prepared (pattern : List ℕ) (columns width : ℕ) (offsets : List ℕ) : Type 0 where
-  pub long : length offsets ≡ 257
-  pub made : 0 < get_or offsets 256 0 → Offsets pattern columns width offsets
+-- they are right where they are made
+pub record Prepared (pattern : List ℕ) (columns width : ℕ) (offsets : Option (List ℕ)) : Type 0 where
+  pub made : (table : List ℕ) → offsets ≡ Some table → Offsets pattern columns width table
+
+-- they are made
+pub record Made (pattern : List ℕ) (columns width : ℕ) (offsets : Option (List ℕ)) : Type 0 where
+  pub table : List ℕ
+  pub table_is : offsets ≡ Some table
+  pub leads : Offsets pattern columns width table
 
 -- the first i symbols of a list have their offsets
 pub record OffsetsUpTo (columns width : ℕ) (symbols first : List ℕ) (i : ℕ) (offsets : List ℕ) : Type 0 where
-  pub long : length offsets ≡ 257
+  pub long : length offsets ≡ 256
   pub each : (j : ℕ) → j < i
       → get_or offsets (get_or symbols j 0) 0 ≡ offset_of columns width (get_or first (get_or symbols j 0) 0)
 
 -- the images of these symbols lie in the text
 pub record ImagesInside (text : List ℕ) (corner : ℕ) (offsets symbols : List ℕ) : Type 0 where
-  pub long : length offsets ≡ 257
+  pub long : length offsets ≡ 256
   pub each : (i : ℕ) → i < length symbols → corner + get_or offsets (get_or symbols i 0) 0 < length text

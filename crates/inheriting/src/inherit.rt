@@ -51,27 +51,29 @@ pub fn inherited_rows(
     v: WindowPlace,
     pattern: &[u8],
     selves: &mut [usize; 256],
-    tops: &[usize; 256],
+    tops: &[Option<usize>; 256],
 ) -> usize
     requires { Placed text.now v × (length pattern.now ≡ cell_count v)
         × Above text.now pattern.now v.columns v.height v.width selves.old tops.now }
-    ensures upper_bound { (result ≤ v.height)
+    ensures inherited { (result ≤ v.height)
         × Follows (cell_of_pattern pattern.now) (window_of text.now v) (result * v.width) }
     ensures above { Above text.now pattern.now v.columns v.height v.width selves.new
         tops.now }
 {
-    let height = v.height;
-    let width = v.width;
-    let row = v.row;
-    let column = v.column;
-    let above = tops[column];
-    if above == 0 {
+    let WindowPlace {
+        row,
+        column,
+        height,
+        width,
+        ..
+    } = v;
+    let Some(above) = tops[column] else {
+        return 0;
+    };
+    if row <= above {
         return 0;
     }
-    if row < above {
-        return 0;
-    }
-    let k = row + 1 - above;
+    let k = row - above;
     if height <= k {
         return 0;
     }

@@ -4,3 +4,4 @@
 
 pub mod inherit;
 pub mod offsets;
+pub mod tables;

@@ -9,8 +9,10 @@ use Rattle.theory.specs.Match.{Maps, Answer, matched, mismatched}
 use Rattle.listing.specs.Records.{bytes_of}
 use Rattle.listing.specs.declared.records.Place.{Place}
 use Rattle.listing.specs.declared.records.MismatchBody.{MismatchBody}
+use Rattle.listing.specs.declared.records.Side.{Side}
+use Rattle.listing.specs.declared.records.Side.TheVariants.{Pattern, Window}
 use Rattle.listing.specs.declared.records.Record.{Record}
-use Rattle.listing.specs.declared.records.Record.TheVariants.{Found, Pair, AlikeInPattern, AlikeInWindow}
+use Rattle.listing.specs.declared.records.Record.TheVariants.{Found, Pair, Mismatch}
 
 -- the bytes of records, one after another
 unfoldable pub bytes_all : List Record → List ℕ
@@ -31,10 +33,19 @@ abbrev pub mismatch_body_at : ℕ → ℕ → ℕ → ℕ → ℕ → MismatchBo
 mismatch_body_at row column width q p =
     record { window = record { row = row; column = column }; earlier = cell_at width q; later = cell_at width p }
 
+-- the side by whether the two cells are alike in the pattern
+abbrev pub side_alike : Bool → Side
+side_alike true = Pattern
+side_alike false = Window
+
+-- and the other way
+abbrev pub in_pattern : Side → Bool
+in_pattern Pattern = true
+in_pattern Window = false
+
 -- kind 3 where the two cells are alike in the pattern only, kind 4 where alike in the window only
 abbrev pub mismatch_record : Bool → MismatchBody → Record
-mismatch_record true body = AlikeInPattern body
-mismatch_record false body = AlikeInWindow body
+mismatch_record alike body = Mismatch (side_alike alike) body
 
 -- the records of the window at (row, column) with that answer: found, and a pair for each of the pattern's symbols; or
 -- the mismatch

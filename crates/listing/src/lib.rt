@@ -1,4 +1,5 @@
 // The records of a listing, and their bytes.
 #![tactic(auto)]
 
+pub mod bytes;
 pub mod records;

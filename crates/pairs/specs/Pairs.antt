@@ -22,8 +22,8 @@ use Rattle.inheriting.specs.Inheritance.Laws.{follows_carried}
 use Rattle.inheriting.specs.Offsets.{corner_of, image_from_behind, Offsets, ImagesInside}
 use Rattle.inheriting.specs.Offsets.Laws.{offset_inside, inside_listed}
 use Rattle.claims.specs.Claims.{or_stop, byte_at, stands, has_image_test, right_pair}
-use Rattle.claims.specs.declared.walks.Walk.TheVariants.{Goes}
-use Rattle.claims.specs.declared.walks.Walk.{Walk}
+use Rattle.std.specs.Prelude.{Ok, Err}
+use Rattle.claims.specs.Claims.{Walk}
 
 -- a window that a found record names: its corner, the offsets that lead from there to its symbols' images, and whether
 -- it is known to follow the pattern
@@ -44,7 +44,7 @@ pub record Marked (base : ℕ) (given marks : List ℕ) : Type 0 where
 pub record PairRead (m w : ℕ → ℕ) (n : ℕ) (listing : List ℕ) (a base at : ℕ) (given : List ℕ) (r : Walk)
     (marks : List ℕ) : Type 0 where
   pub walk_is : r ≡ or_stop (stands listing 2 at) (ListingForm at)
-      (or_stop (right_pair m w n listing a given at) (ListingFalse at) (Goes (at + 3)))
+      (or_stop (right_pair m w n listing a given at) (ListingFalse at) (Ok (at + 3)))
   pub marked : both (stands listing 2 at) (right_pair m w n listing a given at) ≡ true
       → Marked base (byte_at listing at 2 ∷ given) marks
   pub older : Older (base + 1) marks

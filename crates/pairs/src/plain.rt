@@ -4,6 +4,7 @@ ghost use Rattle.inheriting.specs.Offsets.{ImagesInside};
 ghost use Rattle.pairs.specs.Pairs.Plain.{PlainPair, PlainTo};
 
 use inheriting::offsets::image_behind;
+use listing::records::Kind;
 
 // The pair at a place as nearly every pair is: the wanted symbol, with its image, which no pair before it gave. It is
 // marked then. What says false here decides nothing: the pair is then read with all that can be wrong with it. Kind and
@@ -11,21 +12,20 @@ use inheriting::offsets::image_behind;
 fn plain_pair(
     text: &[u8],
     corner: usize,
-    offsets: &[usize; 257],
+    offsets: &[usize; 256],
     base: u32,
     given: &mut [u32; 256],
     a: u8,
     listing: &[u8],
     at: usize,
 ) -> bool
-    requires { (length offsets.now ≡ 257) × (corner + get_or offsets.now a 0 < length text.now)
-        × (length given.old ≡ 256) × (at + 3 ≤ length listing.now) }
+    requires { (corner + get_or offsets.now a 0 < length text.now) × (at + 3 ≤ length listing.now) }
     ensures plain_pair { result ≡ true → PlainPair text.now corner offsets.now base given.old a
         listing.now at given.new }
     ensures given_unchanged { result ≡ false → given.new ≡ given.old }
 {
-    let head = listing[at] as u32 + listing[at + 1] as u32 * 256;
-    if head != 2 + a as u32 * 256 {
+    let head = u16::from_le_bytes([listing[at], listing[at + 1]]);
+    if head != u16::from_le_bytes([u8::from(Kind::Pair), a]) {
         return false;
     }
     let b = listing[at + 2];
@@ -33,10 +33,11 @@ fn plain_pair(
     if image != b {
         return false;
     }
-    if given[b as usize] == base {
+    let place = usize::from(b);
+    if given[place] == base {
         return false;
     }
-    given[b as usize] = base;
+    given[place] = base;
     true
 }
 
@@ -46,36 +47,27 @@ pub fn plain_pairs(
     text: &[u8],
     carried: bool,
     corner: usize,
-    offsets: &[usize; 257],
+    offsets: &[usize; 256],
     base: u32,
     given: &mut [u32; 256],
     symbols: &[u8],
     listing: &[u8],
     at: usize,
 ) -> usize
-    requires { ImagesInside text.now corner offsets.now symbols.now × (length given.old ≡ 256) }
+    requires { ImagesInside text.now corner offsets.now symbols.now }
     ensures plain_to { PlainTo text.now carried corner offsets.now base symbols.now
         listing.now at given.old result (at + 3 * result) given.new }
     ensures result_bound { at + 3 * result ≤ 18446744073709551615 }
 {
-    let n = symbols.len();
-    if !carried {
-        return 0;
-    }
-    if listing.len() < at {
-        return 0;
-    }
-    if (listing.len() - at) / 3 < n {
+    if !carried || listing.len() < at || (listing.len() - at) / 3 < symbols.len() {
         return 0;
     }
     let mut end = at;
-    let mut k = 0;
-    while k < n {
-        if !plain_pair(text, corner, offsets, base, given, symbols[k], listing, end) {
+    for (k, a) in symbols.iter().enumerate() {
+        if !plain_pair(text, corner, offsets, base, given, *a, listing, end) {
             return k;
         }
         end += 3;
-        k += 1;
     }
-    k
+    symbols.len()
 }

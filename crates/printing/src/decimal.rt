@@ -1,7 +1,10 @@
-// A byte in decimal.
+// A byte in decimal. The digits are made here: the kit's writers of numbers fill a buffer of their own from its end, and
+// their bytes would be copied from there.
 ghost use Rattle.std.specs.Prelude.{◌≡◌, [], ◌∷◌, ◌++◌, ◌+◌, ◌≤◌, length};
 ghost use Rattle.theory.specs.Written.{written};
 ghost use Rattle.printing.specs.Decimal.{decimal};
+
+use listing::bytes::put;
 
 // Writes a number's digits at a place, where there is room for them; the place after them.
 fn write_decimal(output: &mut [u8], at: usize, n: u8) -> usize
@@ -10,18 +13,16 @@ fn write_decimal(output: &mut [u8], at: usize, n: u8) -> usize
     ensures output_after { output.new ≡ written output.old at (decimal n) }
 {
     if n < 10 {
-        output[at] = 48 + n;
-        return at + 1;
+        return put(output, at, &[b'0' + n]);
     }
     if n < 100 {
-        output[at] = 48 + n / 10;
-        output[at + 1] = 48 + n % 10;
-        return at + 2;
+        return put(output, at, &[b'0' + n / 10, b'0' + n % 10]);
     }
-    output[at] = 48 + n / 100;
-    output[at + 1] = 48 + n / 10 % 10;
-    output[at + 2] = 48 + n % 10;
-    at + 3
+    put(
+        output,
+        at,
+        &[b'0' + n / 100, b'0' + n / 10 % 10, b'0' + n % 10],
+    )
 }
 
 // The digits, and a byte behind them: a space or a line feed.
@@ -31,6 +32,5 @@ pub fn write_item(output: &mut [u8], at: usize, n: u8, mark: u8) -> usize
     ensures output_after { output.new ≡ written output.old at (decimal n ++ (mark ∷ [])) }
 {
     let end = write_decimal(output, at, n);
-    output[end] = mark;
-    end + 1
+    put(output, end, &[mark])
 }

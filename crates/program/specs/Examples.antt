@@ -7,7 +7,8 @@ use Rattle.std.proofs.Common.{sym, ◌∙◌, ap, arith}
 use Rattle.shapes.specs.Shapes.{Side}
 use Rattle.listing.specs.Entries.{bytes_all}
 use Rattle.listing.specs.declared.records.Record.{Record}
-use Rattle.listing.specs.declared.records.Record.TheVariants.{Found, Pair, AlikeInPattern, Closing}
+use Rattle.listing.specs.declared.records.Record.TheVariants.{Found, Pair, Mismatch, Closing}
+use Rattle.listing.specs.declared.records.Side.TheVariants.{Pattern}
 use Rattle.refusals.specs.Said.{accepts}
 use Rattle.entries.specs.Listing.{found_in, refused_in, needed_length}
 use Rattle.guarantee.specs.Drafts.{starred_drafts}
@@ -53,7 +54,7 @@ first_accepted =
 first_records : List Record
 first_records =
     Found 0 0 ∷ Pair 1 7 ∷ Pair 2 3
-    ∷ AlikeInPattern (record {
+    ∷ Mismatch Pattern (record {
       window = record { row = 0; column = 1 };
       earlier = record { row = 0; column = 0 };
       later = record { row = 0; column = 1 };

@@ -3,18 +3,22 @@
 pub mod Reading
 pub mod Answers
 pub mod RoundTrip
-use Rattle.std.specs.Prelude.{◌≡◌, Bool, List, [], ◌∷◌, ℕ, zero, suc, ◌+◌, ◌<◌, ltb, leb, length, get_or, take, drop}
+use Rattle.std.specs.Prelude.{◌≡◌, Bool, List, [], ◌∷◌, ℕ, zero, suc, ◌+◌, ◌<◌, ltb, leb, length, get_or, take, drop, Result}
 use Rattle.theory.specs.Test.{both}
-use Rattle.refusals.specs.Said.{Said, accepts, ◌then◌, check_with, refusal_said}
+use Rattle.refusals.specs.Said.{Said, accepts, ◌then◌, check_with, answer_said}
+use Rattle.refusals.specs.declared.refusals.Refusal.{Refusal}
 use Rattle.listing.specs.Records.{bytes_of, kind_size}
-use Rattle.reading.specs.declared.reader.Read.{Read}
-use Rattle.reading.specs.declared.reader.Read.TheVariants.{Whole, Refused}
+use Rattle.listing.specs.declared.records.Record.{Record}
+use Rattle.reading.specs.declared.reader.Cursor.{Cursor}
+
+-- what the reader answers: a whole record with the cursor after it, or the refusal
+abbrev pub Read : Type 0
+Read = Result (Record × Cursor) Refusal
 
 -- document 01's number and values of an answer: the place after the record and the record's bytes; of a refusal its
 -- number and the cursor's place
 abbrev pub read_said : Read → Said
-read_said (Whole r next) = accepts (next.at ∷ bytes_of r)
-read_said (Refused why) = refusal_said why
+read_said = answer_said (λ (whole : Record × Cursor). whole.1.at ∷ bytes_of whole.0)
 
 -- how long the record at a place is, by its kind
 abbrev pub size_at : List ℕ → ℕ → ℕ

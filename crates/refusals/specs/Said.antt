@@ -3,7 +3,7 @@
 -- refuses.
 -- Assumes nothing.
 pub mod Laws
-use Rattle.std.specs.Prelude.{Bool, List, [], ◌++◌, ℕ, length, drop}
+use Rattle.std.specs.Prelude.{Bool, List, [], ◌++◌, ℕ, length, drop, Result, Ok, Err}
 use Rattle.theory.specs.Test.{pick}
 use Rattle.refusals.specs.Refusals.{number_of, values_of}
 use Rattle.refusals.specs.declared.refusals.Refusal.{Refusal}
@@ -74,3 +74,8 @@ outcome_said (Refused why) = refusal_said why
 -- an outcome, and what the buffer holds
 abbrev pub filled : Outcome → List ℕ → Filled
 filled o buffer = record { said = outcome_said o; buffer = buffer }
+
+-- what an answer says: accepted, with the numbers of its value; or the refusal
+abbrev pub answer_said : {A : Type 0} → (A → List ℕ) → Result A Refusal → Said
+answer_said values (Ok value) = accepts (values value)
+answer_said values (Err why) = refusal_said why

@@ -24,8 +24,8 @@ use Rattle.listing.specs.Entries.Laws.{bytes_cons, bytes_one, entry_found, entry
 use Rattle.listing.specs.declared.records.Record.TheVariants.{Found}
 use Rattle.refusals.specs.declared.refusals.Refusal.TheVariants.{ListingForm, ListingFalse}
 use Rattle.claims.specs.Claims.{or_stop, byte_at, stands, pairs_from}
-use Rattle.claims.specs.declared.walks.Walk.{Walk}
-use Rattle.claims.specs.declared.walks.Walk.TheVariants.{Goes, Stops}
+use Rattle.claims.specs.Claims.{Walk}
+use Rattle.std.specs.Prelude.{Ok, Err}
 use Rattle.rules.specs.Check.{is_due, right_mismatch, entry_from}
 use Rattle.rules.specs.Rules.Bytes.{Holds, holds_both, holds_first, holds_second, holds_byte, holds_stands}
 use Rattle.rules.specs.Rules.Bytes.{stands_holds, stands_other}
@@ -114,7 +114,7 @@ module _ (text pattern : List ℕ) (v : WindowPlace) (listing : List ℕ) (bytes
       ∙ bytes_cons (Found v.row v.column) (pairs_of image (symbols_of pattern))
 
   found_sound : (at end : ℕ) → stands listing 1 at ≡ true → is_due v listing at ≡ true
-      → pairs_from m w n listing (symbols_of pattern) [] (at + 3) ≡ Goes end
+      → pairs_from m w n listing (symbols_of pattern) [] (at + 3) ≡ Ok end
       → EntryRight at end (image_read pattern listing at) matched
   found_sound at end s d e =
       let t = says_true (due_tested v listing at) d in
@@ -168,7 +168,7 @@ module _ (text pattern : List ℕ) (v : WindowPlace) (listing : List ℕ) (bytes
 
   refused_sound : (side : Bool) (at end : ℕ) (image : ℕ → ℕ) → stands listing 1 at ≡ false
       → stands listing (kind_of side) at ≡ true
-      → right_mismatch side text pattern v listing at ≡ true → Goes (at + 7) ≡ Goes end
+      → right_mismatch side text pattern v listing at ≡ true → ◌≡◌ {A = Walk} (Ok (at + 7)) (Ok end)
       → EntryRight at end image (mismatched side (byte_at listing at 3 * v.width + byte_at listing at 4)
       (byte_at listing at 5 * v.width + byte_at listing at 6))
   refused_sound side at end image none s r e =
@@ -217,7 +217,7 @@ module _ (text pattern : List ℕ) (v : WindowPlace) (listing : List ℕ) (bytes
   -- ---- both
 
   -- where the walk passes, the entry that stands there is true of the window
-  pub entry_sound : (at end : ℕ) → entry_from text pattern v listing at ≡ Goes end
+  pub entry_sound : (at end : ℕ) → entry_from text pattern v listing at ≡ Ok end
       → EntryRight at end (image_read pattern listing at) (answer_read v.width listing at)
   unfolding entry_from answer_read
   entry_sound at end e = go (stands listing 1 at) (stands listing 3 at) (stands listing 4 at) refl refl refl e
@@ -226,9 +226,9 @@ module _ (text pattern : List ℕ) (v : WindowPlace) (listing : List ℕ) (bytes
       walk a b c =
           pick a (or_stop (is_due v listing at) (ListingFalse at)
           (pairs_from m w n listing (symbols_of pattern) [] (at + 3)))
-          (pick b (or_stop (right_mismatch true text pattern v listing at) (ListingFalse at) (Goes (at + 7)))
-          (pick c (or_stop (right_mismatch false text pattern v listing at) (ListingFalse at) (Goes (at + 7)))
-          (Stops (ListingForm at))))
+          (pick b (or_stop (right_mismatch true text pattern v listing at) (ListingFalse at) (Ok (at + 7)))
+          (pick c (or_stop (right_mismatch false text pattern v listing at) (ListingFalse at) (Ok (at + 7)))
+          (Err (ListingForm at))))
 
       read : Bool → Bool → Answer
       read a b =
@@ -236,7 +236,7 @@ module _ (text pattern : List ℕ) (v : WindowPlace) (listing : List ℕ) (bytes
           (byte_at listing at 5 * v.width + byte_at listing at 6))
 
       go : (a b c : Bool) → stands listing 1 at ≡ a → stands listing 3 at ≡ b → stands listing 4 at ≡ c
-          → walk a b c ≡ Goes end
+          → walk a b c ≡ Ok end
           → EntryRight at end (image_read pattern listing at) (read a b)
       go true b c s t u f = let d = goes_on (is_due v listing at) _ _ end f in found_sound at end s d.0 d.1
       go false true c s t u f =
@@ -246,11 +246,11 @@ module _ (text pattern : List ℕ) (v : WindowPlace) (listing : List ℕ) (bytes
           let d = goes_on (right_mismatch false text pattern v listing at) _ _ end f in refused_sound false at end _ s u
           d.0 d.1
       go false false false s t u f =
-          let d = goes_on false (ListingForm at) (Goes end) end f in absurd (true_false d.0 refl)
+          let d = goes_on false (ListingForm at) (Ok end) end f in absurd (true_false d.0 refl)
 
   found_complete : (at : ℕ) (image : ℕ → ℕ) → Maps m w n image
       → Holds listing at (bytes_all (records_at pattern v image matched))
-      → (entry_from text pattern v listing at ≡ Goes (at + length (bytes_all (records_at pattern v image matched))))
+      → (entry_from text pattern v listing at ≡ Ok (at + length (bytes_all (records_at pattern v image matched))))
       × (stands listing 1 at ≡ true)
   unfolding entry_from
   found_complete at image f h =
@@ -269,7 +269,7 @@ module _ (text pattern : List ℕ) (v : WindowPlace) (listing : List ℕ) (bytes
       ) in
       let pairs = pairs_complete m w n listing (symbols_of pattern) [] (at + 3) image rising
       (map_pairs (at + 3) image f second) in (
-        rw (st, due) (pairs ∙ ap Goes (omega
+        rw (st, due) (pairs ∙ ap Ok (omega
             (arith, length_found v.row v.column v.width (symbols_of pattern) image))),
         st,
       )
@@ -312,7 +312,7 @@ module _ (text pattern : List ℕ) (v : WindowPlace) (listing : List ℕ) (bytes
 
   refused_complete : (side : Bool) (at : ℕ) (image : ℕ → ℕ) (q p : ℕ) → p < n → Mismatch side m w q p
       → Holds listing at (bytes_all (records_at pattern v image (mismatched side q p)))
-      → (entry_from text pattern v listing at ≡ Goes (at + 7)) × (stands listing 1 at ≡ false)
+      → (entry_from text pattern v listing at ≡ Ok (at + 7)) × (stands listing 1 at ≡ false)
   unfolding entry_from
   refused_complete true at image q p l d h =
       let none = not_found true at image q p l d h in
@@ -326,12 +326,12 @@ module _ (text pattern : List ℕ) (v : WindowPlace) (listing : List ℕ) (bytes
   -- and where an entry stands there that is true of the window, it passes
   pub entry_complete : (at : ℕ) (image : ℕ → ℕ) (answer : Answer) → TrueOf m w n image answer
       → Holds listing at (bytes_all (records_at pattern v image answer))
-      → (entry_from text pattern v listing at ≡ Goes (at + length (bytes_all (records_at pattern v image answer))))
+      → (entry_from text pattern v listing at ≡ Ok (at + length (bytes_all (records_at pattern v image answer))))
       × (stands listing 1 at ≡ is_match answer)
   entry_complete at image matched f h = found_complete at image f h
   entry_complete at image (mismatched side q p) d h =
       let c = refused_complete side at image q p d.0 d.1 h in (
-        c.0 ∙ ap (λ (k : ℕ). Goes (at + k))
+        c.0 ∙ ap (λ (k : ℕ). Ok (at + k))
             (sym (length_refused v.row v.column v.width (symbols_of pattern) image side q p)),
         c.1,
       )

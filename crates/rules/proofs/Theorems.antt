@@ -25,22 +25,22 @@ use Rattle.listing.specs.Records.{bytes_of}
 use Rattle.listing.specs.Entries.{bytes_all}
 use Rattle.listing.specs.Entries.Laws.{bytes_append, bytes_one}
 use Rattle.listing.specs.declared.records.Record.TheVariants.{Closing}
-use Rattle.claims.specs.declared.walks.Walk.{Walk}
-use Rattle.claims.specs.declared.walks.Walk.TheVariants.{Goes, Stops}
+use Rattle.claims.specs.Claims.{Walk}
+use Rattle.std.specs.Prelude.{Ok, Err}
 use Rattle.rules.specs.Rules.Bytes.{Holds, holds_all, holds_both, holds_first, holds_second, holds_whole}
 use Rattle.rules.specs.Rules.{Entries, records_to, Keeps, KeepsRules}
 use Rattle.rules.proofs.Windows.{onward_goes, closing_sound, closing_complete, entries_read, bytes_to}
 use Rattle.rules.proofs.Windows.{windows_sound, windows_complete, kinds_complete}
-use Rattle.rules.specs.declared.checked.Checked.{Checked}
-use Rattle.rules.specs.declared.checked.Checked.TheVariants.{Kept, Refused}
+use Rattle.std.specs.Prelude.{Ok, Err}
+use Rattle.rules.specs.Check.{Checked, kept}
 
 -- an answer by what it says
 kept_values : (a b c d : ℕ) → accepts (a ∷ b ∷ []) ≡ accepts (c ∷ d ∷ []) → (a ≡ c) × (b ≡ d)
 kept_values a b c d e = (ap (λ (x : Said). get_or (said_values x) 0 0) e, ap (λ (x : Said). get_or (said_values x) 1 0) e)
 
-kept_is : (r : Checked) (found refused : ℕ) → checked_said r ≡ accepts (found ∷ refused ∷ []) → r ≡ Kept found refused
-kept_is (Kept a b) found refused e = let t = kept_values a b found refused e in rw (t.0, t.1)
-kept_is (Refused why) found refused e = absurd (not_accepted (number_of why) (values_of why) (found ∷ refused ∷ []) e)
+kept_is : (r : Checked) (found refused : ℕ) → checked_said r ≡ accepts (found ∷ refused ∷ []) → r ≡ kept found refused
+kept_is (Ok t) found refused e = let k = kept_values t.found t.refused found refused e in rw (← k.0, ← k.1) refl
+kept_is (Err why) found refused e = absurd (not_accepted (number_of why) (values_of why) (found ∷ refused ∷ []) e)
 
 module _ (q : Question) (listing : List ℕ) where
   found_here : ℕ
@@ -62,7 +62,7 @@ module _ (q : Question) (listing : List ℕ) where
     some = let s = posed_is.shape.sized.sides.width_good in omega arith
 
     -- the walk reaches the end: its entries keep the rules
-    keeps_sound : Bytes listing → (end : ℕ) → listing_walk q listing ≡ Goes end
+    keeps_sound : Bytes listing → (end : ℕ) → listing_walk q listing ≡ Ok end
         → KeepsRules q listing found_here refused_here
     unfolding listing_walk found_here refused_here found_to refused_to
     keeps_sound listing_bytes end e =
@@ -126,9 +126,9 @@ module _ (q : Question) (listing : List ℕ) where
 
     -- where the walk accepts, it reached the end
     reached_end : (c : Walk) (a b found refused : ℕ) → walk_said c a b ≡ accepts (found ∷ refused ∷ [])
-        → ((end : ℕ) × (c ≡ Goes end)) × (a ≡ found) × (b ≡ refused)
-    reached_end (Goes at) a b found refused e = let t = kept_values a b found refused e in ((at, refl), t.0, t.1)
-    reached_end (Stops why) a b found refused e =
+        → ((end : ℕ) × (c ≡ Ok end)) × (a ≡ found) × (b ≡ refused)
+    reached_end (Ok at) a b found refused e = let t = kept_values a b found refused e in ((at, refl), t.0, t.1)
+    reached_end (Err why) a b found refused e =
         absurd (not_accepted (number_of why) (values_of why) (found ∷ refused ∷ []) e)
 
     listing_sound : Bytes listing → (found refused : ℕ) → listing_said q listing ≡ accepts (found ∷ refused ∷ [])
@@ -142,14 +142,14 @@ module _ (q : Question) (listing : List ℕ) where
 
   module _ (r : Checked) (checks : checked_said r ≡ check_of q listing) (pattern_bytes : Bytes q.pattern.cells) where
     -- a listing that keeps the rules is accepted, with its counts
-    pub accepts_all : (found refused : ℕ) → KeepsRules q listing found refused → r ≡ Kept found refused
+    pub accepts_all : (found refused : ℕ) → KeepsRules q listing found refused → r ≡ kept found refused
     unfolding check_of
     accepts_all found refused (e, k) =
         kept_is r found refused (checks ∙ rw (posed_said q k.posed_is)
         (keeps_complete pattern_bytes k.posed_is found refused e k))
 
     -- and nothing else is
-    pub accepts_only : Bytes listing → (found refused : ℕ) → r ≡ Kept found refused → KeepsRules q listing found refused
+    pub accepts_only : Bytes listing → (found refused : ℕ) → r ≡ kept found refused → KeepsRules q listing found refused
     unfolding check_of
     accepts_only listing_bytes found refused e =
         let a = then_both (shape_said q) (listing_said q listing) (found ∷ refused ∷ []) (sym checks ∙ ap checked_said e)
@@ -157,19 +157,19 @@ module _ (q : Question) (listing : List ℕ) where
         listing_sound pattern_bytes (posed q a.0.0 a.0.1) listing_bytes found refused a.1
 
     -- DEMAND 2: the check accepts exactly the listings that keep the rules
-    pub accepts_iff : Bytes listing → (found refused : ℕ) → (r ≡ Kept found refused)
+    pub accepts_iff : Bytes listing → (found refused : ℕ) → (r ≡ kept found refused)
         ↔ KeepsRules q listing found refused
     accepts_iff listing_bytes found refused = (accepts_only listing_bytes found refused, accepts_all found refused)
 
 -- a walk whose number is 0 went on to the end
 walked_zero : (w : Walk) (found refused : ℕ) → said_number (walk_said w found refused) ≡ 0
     → accepts (found ∷ refused ∷ []) ≡ walk_said w found refused
-walked_zero (Goes at) found refused e = refl
-walked_zero (Stops why) found refused e = absurd (omega (arith, number_positive why, e))
+walked_zero (Ok at) found refused e = refl
+walked_zero (Err why) found refused e = absurd (omega (arith, number_positive why, e))
 
 -- where the check's number is 0, it is accepted, with two counts
 pub check_zero : (q : Question) (listing : List ℕ) → said_number (check_of q listing) ≡ 0
-    → (found : ℕ) × (refused : ℕ) × (checked_said (Kept found refused) ≡ check_of q listing)
+    → (found : ℕ) × (refused : ℕ) × (checked_said (kept found refused) ≡ check_of q listing)
 unfolding check_of listing_said
 check_zero q listing e = go (shape_said q) (shape_proper q) e
   where

@@ -24,8 +24,8 @@ use Rattle.listing.specs.Entries.{bytes_all}
 use Rattle.listing.specs.Entries.Laws.{bytes_none, bytes_append}
 use Rattle.listing.specs.declared.records.Record.TheVariants.{Closing}
 use Rattle.claims.specs.Claims.{onward, byte_at, stands}
-use Rattle.claims.specs.declared.walks.Walk.{Walk}
-use Rattle.claims.specs.declared.walks.Walk.TheVariants.{Goes, Stops}
+use Rattle.claims.specs.Claims.{Walk}
+use Rattle.std.specs.Prelude.{Ok, Err}
 use Rattle.rules.specs.Check.{place_reached, place_in, entry_from, windows_to, stands_found, right_closing}
 use Rattle.rules.specs.Check.{closing_from}
 use Rattle.rules.specs.Rules.Bytes.{Holds, holds_none, holds_both, holds_first, holds_second, holds_byte}
@@ -36,10 +36,10 @@ use Rattle.rules.specs.Rules.Pairs.{goes_on, goes_to}
 use Rattle.rules.proofs.Entry.{answer_read, image_read, EntryRight, entry_sound, entry_complete}
 
 -- the walk goes on past a part only if that part passed
-pub onward_goes : (c : Walk) (after : ℕ → Walk) (end : ℕ) → onward c after ≡ Goes end
-    → (at : ℕ) × (c ≡ Goes at) × (after at ≡ Goes end)
-onward_goes (Goes at) after end e = (at, refl, e)
-onward_goes (Stops why) after end e = absurd (goes_not_stops end why (sym e))
+pub onward_goes : (c : Walk) (after : ℕ → Walk) (end : ℕ) → onward c after ≡ Ok end
+    → (at : ℕ) × (c ≡ Ok at) × (after at ≡ Ok end)
+onward_goes (Ok at) after end e = (at, refl, e)
+onward_goes (Err why) after end e = absurd (goes_not_stops end why (sym e))
 
 -- ---- the closing
 
@@ -52,7 +52,7 @@ closing_tested listing found refused at =
     (eq_tested (byte_at listing at 3 * 256 + byte_at listing at 4) refused)
 
 pub closing_sound : (listing : List ℕ) (found refused at end : ℕ) → ((k : ℕ) → get_or listing k 0 < 256)
-    → closing_from listing found refused at ≡ Goes end
+    → closing_from listing found refused at ≡ Ok end
     → Holds listing at (bytes_of (Closing found refused)) × (at + 5 ≡ length listing)
 unfolding closing_from
 closing_sound listing found refused at end bytes e =
@@ -71,7 +71,7 @@ closing_sound listing found refused at end bytes e =
 
 pub closing_complete : (listing : List ℕ) (found refused at : ℕ) → Holds listing at (bytes_of (Closing found refused))
     → at + 5 ≡ length listing
-    → closing_from listing found refused at ≡ Goes (at + 5)
+    → closing_from listing found refused at ≡ Ok (at + 5)
 unfolding closing_from
 closing_complete listing found refused at h e =
     let byte = holds_byte listing at (bytes_of (Closing found refused)) h in
@@ -138,8 +138,8 @@ module _ (q : Question) (listing : List ℕ) (bytes : Bytes q.pattern.cells)
     pub kinds : (j : ℕ) → j < k → is_match (e.answer j) ≡ stands_found q listing j
 
   -- one more
-  reached_more : (k at end : ℕ) → at_window k ≡ Goes at → PassedTo entries_read k at
-      → entry_from q.text.cells q.pattern.cells (place_in q k) listing at ≡ Goes end
+  reached_more : (k at end : ℕ) → at_window k ≡ Ok at → PassedTo entries_read k at
+      → entry_from q.text.cells q.pattern.cells (place_in q k) listing at ≡ Ok end
       → PassedTo entries_read (suc k) end
   unfolding entries_read stands_found
   reached_more k at end e r f =
@@ -173,7 +173,7 @@ module _ (q : Question) (listing : List ℕ) (bytes : Bytes q.pattern.cells)
       kinds j (holds l) h = r.kinds j l
       kinds j (fails l) h = rw (last j l h) (here.kind_is ∙ ap (stands listing 1) (sym (ap place_reached e)))
 
-  pub windows_sound : (k at : ℕ) → at_window k ≡ Goes at → PassedTo entries_read k at
+  pub windows_sound : (k at : ℕ) → at_window k ≡ Ok at → PassedTo entries_read k at
   unfolding windows_to
   windows_sound zero at e =
       record {
@@ -203,16 +203,16 @@ module _ (q : Question) (listing : List ℕ) (bytes : Bytes q.pattern.cells)
       go ih (fails l) = ih (omega arith) less
 
   pub windows_complete : (e : Entries) (n : ℕ) → Holds listing 0 (bytes_to e n) → ((k : ℕ) → k < n → TrueAt e k)
-      → (k : ℕ) → k ≤ n → at_window k ≡ Goes (length (bytes_to e k))
+      → (k : ℕ) → k ≤ n → at_window k ≡ Ok (length (bytes_to e k))
   unfolding windows_to
-  windows_complete e n t trues zero h = ap Goes (sym (ap length (records_none e)))
+  windows_complete e n t trues zero h = ap Ok (sym (ap length (records_none e)))
   windows_complete e n t trues (suc k) h =
       let ih = windows_complete e n t trues k (omega arith) in
       let two = holds_second listing 0 (bytes_to e k) _ (rw (records_more e k) at (fewer e n (suc k) h t)) in
       let c = entry_complete q.text.cells q.pattern.cells (place_in q k) listing bytes size some
       (length (bytes_to e k)) (e.image k) (e.answer k) (trues k h)
       (rw (zero-add (length (bytes_to e k))) at two) in
-      rw ih (c.0 ∙ ap Goes (sym (length_more e k)))
+      rw ih (c.0 ∙ ap Ok (sym (length_more e k)))
 
   -- and the windows stand as the entries say
   pub kinds_complete : (e : Entries) (n : ℕ) → Holds listing 0 (bytes_to e n) → ((k : ℕ) → k < n → TrueAt e k) → (k : ℕ)

@@ -2,10 +2,10 @@
 -- then the closing, then the end. The first bad record stops it, with 6 where its form is wrong and 7 where it is
 -- false. What a listing must be for the walk to reach the end is said without a walk in `Rules`.
 -- Assumes nothing.
-use Rattle.std.specs.Prelude.{Bool, true, false, not, List, [], ◌∷◌, ℕ, zero, suc, ◌+◌, ◌*◌, eqb, length}
+use Rattle.std.specs.Prelude.{Bool, true, false, not, List, [], ◌∷◌, ℕ, zero, suc, ◌+◌, ◌*◌, eqb, length, Result, Ok, Err}
 use Rattle.theory.specs.Test.{pick, both}
 use Rattle.theory.specs.Count.{count}
-use Rattle.refusals.specs.Said.{Said, accepts, ◌then◌, refusal_said}
+use Rattle.refusals.specs.Said.{Said, ◌then◌, answer_said}
 use Rattle.shapes.specs.Questions.{Question, windows_of, shape_said}
 use Rattle.sets.specs.Symbols.{symbols_of}
 use Rattle.refusals.specs.declared.refusals.Refusal.TheVariants.{ListingForm, ListingFalse}
@@ -13,10 +13,9 @@ use Rattle.matching.specs.Compare.{cell_of_pattern, window_of, cell_count}
 use Rattle.matching.specs.Windows.{window_place}
 use Rattle.cells.specs.declared.windows.WindowPlace.{WindowPlace}
 use Rattle.claims.specs.Claims.{or_stop, onward, stands, byte_at, true_mismatch_test, pairs_from}
-use Rattle.claims.specs.declared.walks.Walk.{Walk}
-use Rattle.claims.specs.declared.walks.Walk.TheVariants.{Goes, Stops}
-use Rattle.rules.specs.declared.checked.Checked.{Checked}
-use Rattle.rules.specs.declared.checked.Checked.TheVariants.{Kept, Refused}
+use Rattle.claims.specs.Claims.{Walk}
+use Rattle.refusals.specs.declared.refusals.Refusal.{Refusal}
+use Rattle.rules.specs.declared.checked.Tally.{Tally}
 
 -- ---- one record
 
@@ -46,10 +45,10 @@ entry_from text pattern v listing at =
     (or_stop (is_due v listing at) (ListingFalse at)
     (pairs_from (cell_of_pattern pattern) (window_of text v) (cell_count v) listing (symbols_of pattern) [] (at + 3)))
     (pick (stands listing 3 at) (or_stop (right_mismatch true text pattern v listing at) (ListingFalse at)
-    (Goes (at + 7)))
+    (Ok (at + 7)))
     (pick (stands listing 4 at) (or_stop (right_mismatch false text pattern v listing at) (ListingFalse at)
-    (Goes (at + 7)))
-    (Stops (ListingForm at))))
+    (Ok (at + 7)))
+    (Err (ListingForm at))))
 
 -- window k of a question
 abbrev pub place_in : Question → ℕ → WindowPlace
@@ -57,14 +56,14 @@ place_in q k = window_place q.text.columns q.pattern.rows q.pattern.columns k
 
 -- the first k windows, from the listing's first byte
 unfoldable pub windows_to : Question → List ℕ → ℕ → Walk
-windows_to q listing zero = Goes 0
+windows_to q listing zero = Ok 0
 windows_to q listing (suc k) =
     onward (windows_to q listing k) (entry_from q.text.cells q.pattern.cells (place_in q k) listing)
 
 -- the place reached; where the check has stopped it does not matter, and is 0
 abbrev pub place_reached : Walk → ℕ
-place_reached (Goes at) = at
-place_reached (Stops why) = 0
+place_reached (Ok at) = at
+place_reached (Err why) = 0
 
 -- window k stands as found
 unfoldable pub stands_found : Question → List ℕ → ℕ → Bool
@@ -83,7 +82,7 @@ unfoldable pub closing_from : List ℕ → ℕ → ℕ → ℕ → Walk
 closing_from listing found refused at =
     or_stop (stands listing 5 at) (ListingForm at)
     (or_stop (right_closing listing found refused at) (ListingFalse at)
-    (or_stop (eqb (at + 5) (length listing)) (ListingForm (at + 5)) (Goes (at + 5))))
+    (or_stop (eqb (at + 5) (length listing)) (ListingForm (at + 5)) (Ok (at + 5))))
 
 -- the whole listing
 unfoldable pub listing_walk : Question → List ℕ → Walk
@@ -94,16 +93,22 @@ listing_walk q listing =
 
 -- ---- the operation
 
+-- what it answers: the listing keeps the rules, and so many windows stand as found and so many as refused; or the
+-- refusal
+abbrev pub Checked : Type 0
+Checked = Result Tally Refusal
+
+abbrev pub kept : ℕ → ℕ → Checked
+kept found refused = Ok (record { found = found; refused = refused })
+
 -- document 01's number and values of an answer: accepted, found and refused; of a refusal its number and what it
 -- returns besides, for 6 and 7 the place of the bad record
 abbrev pub checked_said : Checked → Said
-checked_said (Kept found refused) = accepts (found ∷ refused ∷ [])
-checked_said (Refused why) = refusal_said why
+checked_said = answer_said (λ (t : Tally). t.found ∷ t.refused ∷ [])
 
 -- a check that goes so, with these counts
 abbrev pub walk_said : Walk → ℕ → ℕ → Said
-walk_said (Goes at) found refused = accepts (found ∷ refused ∷ [])
-walk_said (Stops why) found refused = refusal_said why
+walk_said walk found refused = answer_said (λ (at : ℕ). found ∷ refused ∷ []) walk
 
 -- 6 or 7 by the first bad record; accepted, found and refused
 unfoldable pub listing_said : Question → List ℕ → Said

@@ -18,13 +18,15 @@ use Rattle.listing.specs.Records.{bytes_of}
 use Rattle.reading.specs.Reader.{read_said, cursor_said, bytes_from}
 use Rattle.reading.specs.Reader.Reading.{HasRecord, has_inside}
 use Rattle.listing.specs.declared.records.MismatchBody.{MismatchBody}
+use Rattle.listing.specs.Entries.{in_pattern}
+use Rattle.listing.specs.declared.records.Side.{Side}
+use Rattle.listing.specs.declared.records.Side.TheVariants.{Pattern, Window}
 use Rattle.listing.specs.declared.records.Record.{Record}
-use Rattle.listing.specs.declared.records.Record.TheVariants.{Found, Pair, AlikeInPattern, AlikeInWindow, Closing}
+use Rattle.listing.specs.declared.records.Record.TheVariants.{Found, Pair, Mismatch, Closing}
 use Rattle.reading.specs.declared.reader.Cursor.{Cursor}
-use Rattle.reading.specs.declared.reader.Read.TheVariants.{Whole, Refused}
+use Rattle.std.specs.Prelude.{Ok, Err}
 use Rattle.claims.specs.Claims.{or_stop, byte_at, stands, true_mismatch_test, pairs_from}
-use Rattle.claims.specs.declared.walks.Walk.{Walk}
-use Rattle.claims.specs.declared.walks.Walk.TheVariants.{Goes, Stops}
+use Rattle.claims.specs.Claims.{Walk}
 use Rattle.rules.specs.Check.{is_due, right_mismatch, right_closing, entry_from, closing_from}
 use Rattle.claims.specs.Walks.{goes_not_stops, MismatchAt}
 use Rattle.claims.specs.Claims.Standing.{stands_tested, refused_stands, whole_byte, whole_stands, whole_other}
@@ -53,7 +55,7 @@ module _ (v : WindowPlace) (body : MismatchBody) (listing : List ℕ) (at : ℕ)
   module _ (text pattern : List ℕ) (side : Bool) (next : ℕ) where
     -- the body names another window
     pub other_window : both (eqb body.window.row v.row) (eqb body.window.column v.column) ≡ false
-        → Stops (ListingFalse at) ≡ or_stop (right_mismatch side text pattern v listing at) (ListingFalse at) (Goes next)
+        → Err (ListingFalse at) ≡ or_stop (right_mismatch side text pattern v listing at) (ListingFalse at) (Ok next)
     unfolding right_mismatch
     other_window e = rw (due_of, e)
 
@@ -61,15 +63,15 @@ module _ (v : WindowPlace) (body : MismatchBody) (listing : List ℕ) (at : ℕ)
     module _ (due : both (eqb body.window.row v.row) (eqb body.window.column v.column) ≡ true) where
       pub mismatch_fails : true_mismatch_test side (cell_of_pattern pattern) (window_of text v) v.height v.width
           body.earlier.row body.earlier.column body.later.row body.later.column ≡ false
-          → Stops (ListingFalse at) ≡ or_stop (right_mismatch side text pattern v listing at) (ListingFalse at)
-          (Goes next)
+          → Err (ListingFalse at) ≡ or_stop (right_mismatch side text pattern v listing at) (ListingFalse at)
+          (Ok next)
       unfolding right_mismatch
       mismatch_fails e = rw (due_of, due, cells_of side (cell_of_pattern pattern) (window_of text v), e)
 
       -- and where they do, the record is right
       pub mismatch_holds : true_mismatch_test side (cell_of_pattern pattern) (window_of text v) v.height v.width
           body.earlier.row body.earlier.column body.later.row body.later.column ≡ true
-          → Goes next ≡ or_stop (right_mismatch side text pattern v listing at) (ListingFalse at) (Goes next)
+          → Ok next ≡ or_stop (right_mismatch side text pattern v listing at) (ListingFalse at) (Ok next)
       unfolding right_mismatch
       mismatch_holds e = rw (due_of, due, cells_of side (cell_of_pattern pattern) (window_of text v), e)
 
@@ -78,39 +80,34 @@ six_are : (a b c d e f g h i j k l : ℕ) → a ≡ g → b ≡ h → c ≡ i �
     → a ∷ b ∷ c ∷ d ∷ e ∷ f ∷ [] ≡ g ∷ h ∷ i ∷ j ∷ k ∷ l ∷ []
 six_are a b c d e f g h i j k l p q r s t u = rw (p, q, r, s, t, u)
 
-module _ (body : MismatchBody) (listing : List ℕ) (at : ℕ) (next : Cursor) where
-  pub pattern_body : read_said (Whole (AlikeInPattern body) next) ≡ cursor_said listing at → MismatchAt body listing at
-  pattern_body r =
-      sym (six_are _ _ _ _ _ _ _ _ _ _ _ _ (byte 1 (omega arith)) (byte 2 (omega arith)) (byte 3 (omega arith))
-      (byte 4 (omega arith)) (byte 5 (omega arith)) (byte 6 (omega arith)))
-    where
-      byte : (i : ℕ) → i < length (bytes_of (AlikeInPattern body))
-          → byte_at listing at i ≡ get_or (bytes_of (AlikeInPattern body)) i 0
-      byte = whole_byte listing at (AlikeInPattern body) next r
-
-  pub window_body : read_said (Whole (AlikeInWindow body) next) ≡ cursor_said listing at → MismatchAt body listing at
-  window_body r =
-      sym (six_are _ _ _ _ _ _ _ _ _ _ _ _ (byte 1 (omega arith)) (byte 2 (omega arith)) (byte 3 (omega arith))
-      (byte 4 (omega arith)) (byte 5 (omega arith)) (byte 6 (omega arith)))
-    where
-      byte : (i : ℕ) → i < length (bytes_of (AlikeInWindow body))
-          → byte_at listing at i ≡ get_or (bytes_of (AlikeInWindow body)) i 0
-      byte = whole_byte listing at (AlikeInWindow body) next r
+pub mismatch_read : (alike : Side) (body : MismatchBody) (listing : List ℕ) (at : ℕ) (next : Cursor)
+    → read_said (Ok (Mismatch alike body, next)) ≡ cursor_said listing at → MismatchAt body listing at
+mismatch_read alike body listing at next r = go alike r
+  where
+    go : (alike : Side) → read_said (Ok (Mismatch alike body, next)) ≡ cursor_said listing at → MismatchAt body listing at
+    go Pattern r =
+        let byte = whole_byte listing at (Mismatch Pattern body) next r in
+        sym (six_are _ _ _ _ _ _ _ _ _ _ _ _ (byte 1 (omega arith)) (byte 2 (omega arith)) (byte 3 (omega arith))
+        (byte 4 (omega arith)) (byte 5 (omega arith)) (byte 6 (omega arith)))
+    go Window r =
+        let byte = whole_byte listing at (Mismatch Window body) next r in
+        sym (six_are _ _ _ _ _ _ _ _ _ _ _ _ (byte 1 (omega arith)) (byte 2 (omega arith)) (byte 3 (omega arith))
+        (byte 4 (omega arith)) (byte 5 (omega arith)) (byte 6 (omega arith)))
 
 -- ---- the window's records, by the record that stands first
 
 module _ (text pattern : List ℕ) (v : WindowPlace) (listing : List ℕ) (at : ℕ) where
   -- none does
-  pub entry_none : (why : Refusal) → read_said (Refused why) ≡ cursor_said listing at
-      → Stops (ListingForm at) ≡ entry_from text pattern v listing at
+  pub entry_none : (why : Refusal) → read_said (Err why) ≡ cursor_said listing at
+      → Err (ListingForm at) ≡ entry_from text pattern v listing at
   unfolding entry_from
   entry_none why r =
       rw (refused_stands listing at why r 1, refused_stands listing at why r 3, refused_stands listing at why r 4)
 
   -- one of another kind does
-  entry_other : (r : Record) (next : Cursor) → read_said (Whole r next) ≡ cursor_said listing at
+  entry_other : (r : Record) (next : Cursor) → read_said (Ok (r, next)) ≡ cursor_said listing at
       → (get_or (bytes_of r) 0 0 ≡ 1 → ⊥) → (get_or (bytes_of r) 0 0 ≡ 3 → ⊥) → (get_or (bytes_of r) 0 0 ≡ 4 → ⊥)
-      → Stops (ListingForm at) ≡ entry_from text pattern v listing at
+      → Err (ListingForm at) ≡ entry_from text pattern v listing at
   unfolding entry_from
   entry_other r next reads a b c =
       rw (
@@ -120,44 +117,38 @@ module _ (text pattern : List ℕ) (v : WindowPlace) (listing : List ℕ) (at : 
             next reads 4 c,
       )
 
-  pub entry_pair : (a b : ℕ) (next : Cursor) → read_said (Whole (Pair a b) next) ≡ cursor_said listing at
-      → Stops (ListingForm at) ≡ entry_from text pattern v listing at
+  pub entry_pair : (a b : ℕ) (next : Cursor) → read_said (Ok (Pair a b, next)) ≡ cursor_said listing at
+      → Err (ListingForm at) ≡ entry_from text pattern v listing at
   entry_pair a b next r = entry_other (Pair a b) next r (λ e. omega arith) (λ e. omega arith) (λ e. omega arith)
 
-  pub entry_closing : (a b : ℕ) (next : Cursor) → read_said (Whole (Closing a b) next) ≡ cursor_said listing at
-      → Stops (ListingForm at) ≡ entry_from text pattern v listing at
+  pub entry_closing : (a b : ℕ) (next : Cursor) → read_said (Ok (Closing a b, next)) ≡ cursor_said listing at
+      → Err (ListingForm at) ≡ entry_from text pattern v listing at
   entry_closing a b next r = entry_other (Closing a b) next r (λ e. omega arith) (λ e. omega arith) (λ e. omega arith)
 
   -- a mismatch
-  pub entry_pattern : (body : MismatchBody) (next : Cursor)
-      → read_said (Whole (AlikeInPattern body) next) ≡ cursor_said listing at → (c : Walk)
-      → c ≡ or_stop (right_mismatch true text pattern v listing at) (ListingFalse at) (Goes next.at)
+  pub entry_mismatch : (alike : Side) (body : MismatchBody) (next : Cursor)
+      → read_said (Ok (Mismatch alike body, next)) ≡ cursor_said listing at → (c : Walk)
+      → c ≡ or_stop (right_mismatch (in_pattern alike) text pattern v listing at) (ListingFalse at) (Ok next.at)
       → c ≡ entry_from text pattern v listing at
   unfolding entry_from
-  entry_pattern body next r c e =
+  entry_mismatch Pattern body next r c e =
       rw (
-        whole_other listing at (AlikeInPattern body) next r 1 (λ z. omega arith),
-        whole_stands listing at (AlikeInPattern body) next r 3 refl,
-        ← (whole_next listing at (AlikeInPattern body) next r),
+        whole_other listing at (Mismatch Pattern body) next r 1 (λ z. omega arith),
+        whole_stands listing at (Mismatch Pattern body) next r 3 refl,
+        ← (whole_next listing at (Mismatch Pattern body) next r),
       )
       e
-
-  pub entry_window : (body : MismatchBody) (next : Cursor)
-      → read_said (Whole (AlikeInWindow body) next) ≡ cursor_said listing at → (c : Walk)
-      → c ≡ or_stop (right_mismatch false text pattern v listing at) (ListingFalse at) (Goes next.at)
-      → c ≡ entry_from text pattern v listing at
-  unfolding entry_from
-  entry_window body next r c e =
+  entry_mismatch Window body next r c e =
       rw (
-        whole_other listing at (AlikeInWindow body) next r 1 (λ z. omega arith),
-        whole_other listing at (AlikeInWindow body) next r 3 (λ z. omega arith),
-        whole_stands listing at (AlikeInWindow body) next r 4 refl,
-        ← (whole_next listing at (AlikeInWindow body) next r),
+        whole_other listing at (Mismatch Window body) next r 1 (λ z. omega arith),
+        whole_other listing at (Mismatch Window body) next r 3 (λ z. omega arith),
+        whole_stands listing at (Mismatch Window body) next r 4 refl,
+        ← (whole_next listing at (Mismatch Window body) next r),
       )
       e
 
   -- found: the window that is due, and its pairs
-  module _ (row column : ℕ) (next : Cursor) (r : read_said (Whole (Found row column) next) ≡ cursor_said listing at) where
+  module _ (row column : ℕ) (next : Cursor) (r : read_said (Ok (Found row column, next)) ≡ cursor_said listing at) where
     found_due : is_due v listing at ≡ both (eqb row v.row) (eqb column v.column)
     unfolding is_due
     found_due =
@@ -168,7 +159,7 @@ module _ (text pattern : List ℕ) (v : WindowPlace) (listing : List ℕ) (at : 
         )
 
     pub entry_not_due : both (eqb row v.row) (eqb column v.column) ≡ false
-        → Stops (ListingFalse at) ≡ entry_from text pattern v listing at
+        → Err (ListingFalse at) ≡ entry_from text pattern v listing at
     unfolding entry_from
     entry_not_due e = rw (whole_stands listing at (Found row column) next r 1 refl, found_due, e)
 
@@ -187,7 +178,7 @@ module _ (text pattern : List ℕ) (v : WindowPlace) (listing : List ℕ) (at : 
 
 -- where the walk goes on, a whole record stands first, so that its kind alone says whether the window stands as found
 module _ (text pattern : List ℕ) (v : WindowPlace) (listing : List ℕ) (at next : ℕ)
-    (on : Goes next ≡ entry_from text pattern v listing at) where
+    (on : Ok next ≡ entry_from text pattern v listing at) where
   some_record : HasRecord listing at
   unfolding entry_from
   some_record =
@@ -216,17 +207,17 @@ module _ (text pattern : List ℕ) (v : WindowPlace) (listing : List ℕ) (at ne
 -- ---- the closing
 
 module _ (listing : List ℕ) (found refused at : ℕ) where
-  pub closing_none : (why : Refusal) → read_said (Refused why) ≡ cursor_said listing at
-      → Stops (ListingForm at) ≡ closing_from listing found refused at
+  pub closing_none : (why : Refusal) → read_said (Err why) ≡ cursor_said listing at
+      → Err (ListingForm at) ≡ closing_from listing found refused at
   unfolding closing_from
   closing_none why r = rw (refused_stands listing at why r 5)
 
-  pub closing_other : (r : Record) (next : Cursor) → read_said (Whole r next) ≡ cursor_said listing at
-      → (get_or (bytes_of r) 0 0 ≡ 5 → ⊥) → Stops (ListingForm at) ≡ closing_from listing found refused at
+  pub closing_other : (r : Record) (next : Cursor) → read_said (Ok (r, next)) ≡ cursor_said listing at
+      → (get_or (bytes_of r) 0 0 ≡ 5 → ⊥) → Err (ListingForm at) ≡ closing_from listing found refused at
   unfolding closing_from
   closing_other r next reads n = rw (whole_other listing at r next reads 5 n)
 
-  module _ (a b : ℕ) (next : Cursor) (r : read_said (Whole (Closing a b) next) ≡ cursor_said listing at) where
+  module _ (a b : ℕ) (next : Cursor) (r : read_said (Ok (Closing a b, next)) ≡ cursor_said listing at) where
     -- its counts are those of its bytes
     counts_are : right_closing listing found refused at ≡ both (eqb a found) (eqb b refused)
     unfolding right_closing
@@ -240,18 +231,18 @@ module _ (listing : List ℕ) (found refused at : ℕ) where
           div-add-mod' b 256,
         )
 
-    pub other_found : (a ≡ found → ⊥) → Stops (ListingFalse at) ≡ closing_from listing found refused at
+    pub other_found : (a ≡ found → ⊥) → Err (ListingFalse at) ≡ closing_from listing found refused at
     unfolding closing_from
     other_found n = rw (whole_stands listing at (Closing a b) next r 5 refl, counts_are, ne_eqb a found n)
 
-    pub other_refused : a ≡ found → (b ≡ refused → ⊥) → Stops (ListingFalse at) ≡ closing_from listing found refused at
+    pub other_refused : a ≡ found → (b ≡ refused → ⊥) → Err (ListingFalse at) ≡ closing_from listing found refused at
     unfolding closing_from
     other_refused e n =
         rw (whole_stands listing at (Closing a b) next r 5 refl, counts_are, eq-eqb a found e, ne_eqb b refused n)
 
     -- more behind it, and nothing
     pub closing_not_last : a ≡ found → b ≡ refused → (next.at ≡ length listing → ⊥)
-        → Stops (ListingForm next.at) ≡ closing_from listing found refused at
+        → Err (ListingForm next.at) ≡ closing_from listing found refused at
     unfolding closing_from
     closing_not_last e f n =
         rw (
@@ -265,7 +256,7 @@ module _ (listing : List ℕ) (found refused at : ℕ) where
         )
 
     pub closing_last : a ≡ found → b ≡ refused → next.at ≡ length listing
-        → Goes next.at ≡ closing_from listing found refused at
+        → Ok next.at ≡ closing_from listing found refused at
     unfolding closing_from
     closing_last e f n =
         rw (

@@ -1,10 +1,8 @@
-// What the check answers.
-use refusals::refusals::Refusal;
+// What the check answers of a listing that keeps the rules.
 
-// What the check answers.
-#[derive(Clone, Copy)]
-pub enum Checked {
-    // the listing keeps the rules: so many windows stand as found, and so many as refused
-    Kept { found: u16, refused: u16 },
-    Refused(Refusal),
+// How many windows stand as found, and how many as refused.
+#[derive(Clone, Copy, Debug, PartialEq, Eq)]
+pub struct Tally {
+    pub found: u16,
+    pub refused: u16,
 }

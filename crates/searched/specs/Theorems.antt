@@ -35,7 +35,7 @@ use Rattle.listing.specs.Entries.{bytes_all, pairs_of, mismatch_body_at, mismatc
 use Rattle.listing.specs.Entries.Laws.{pairs_ext, right_pairs, entry_found, entry_refused}
 use Rattle.listing.specs.declared.records.Record.{Record}
 use Rattle.listing.specs.declared.records.Record.TheVariants.{Found}
-use Rattle.reading.specs.declared.reader.Read.TheVariants.{Whole}
+use Rattle.std.specs.Prelude.{Ok, Err}
 use Rattle.flags.specs.Flags.{Work, RoomFor, rooms_of, window_flag, count_at, work_after, Rooms}
 use Rattle.flags.specs.Flags.Laws.{flag_one}
 use Rattle.entries.specs.Listing.{verdict_records, entry_of_window, found_in, refused_in, search_records, search_listing}
@@ -180,7 +180,7 @@ module _ (q : Question) where
   -- the listing holds its records in their order: reading where one begins gives it, and the place where the next
   -- begins
   pub listing_reads : (before after : List Record) (r : Record) → search_records q ≡ before ++ (r ∷ after)
-      → read_said (Whole r (record { at = length (bytes_all before) + length (bytes_of r) }))
+      → read_said (Ok (r, record { at = length (bytes_all before) + length (bytes_of r) }))
       ≡ cursor_said (search_listing q) (length (bytes_all before))
   unfolding search_listing
   listing_reads before after r e = rw e (records_read before after r)

@@ -9,23 +9,21 @@ use Rattle.shapes.specs.Questions.{Question, windows_of, shape_said}
 use Rattle.refusals.specs.declared.refusals.Refusal.{Refusal}
 use Rattle.refusals.specs.declared.refusals.Outcome.{Outcome}
 use Rattle.refusals.specs.declared.refusals.Outcome.TheVariants.{Refused as RefusedOutcome}
-use Rattle.claims.specs.declared.walks.Walk.{Walk}
-use Rattle.claims.specs.declared.walks.Walk.TheVariants.{Goes, Stops}
+use Rattle.claims.specs.Claims.{Walk}
+use Rattle.std.specs.Prelude.{Ok, Err}
 use Rattle.rules.specs.Check.{closing_from, windows_to, stands_found, found_to, refused_to, listing_walk, checked_said}
-use Rattle.rules.specs.Check.{walk_said, listing_said, check_of}
-use Rattle.rules.specs.declared.checked.Checked.{Checked}
-use Rattle.rules.specs.declared.checked.Checked.TheVariants.{Kept, Refused}
+use Rattle.rules.specs.Check.{Checked, kept, walk_said, listing_said, check_of}
 
 -- ---- the walk's answer
 
 module _ (q : Question) (listing : List ℕ) where
   -- a window stops it
-  pub stopped_answer : (why : Refusal) → windows_to q listing (windows_of q) ≡ Stops why
-      → checked_said (Refused why) ≡ listing_said q listing
+  pub stopped_answer : (why : Refusal) → windows_to q listing (windows_of q) ≡ Err why
+      → checked_said (Err why) ≡ listing_said q listing
   unfolding listing_said listing_walk
   stopped_answer why e = rw e
 
-  module _ (at found : ℕ) (reached : windows_to q listing (windows_of q) ≡ Goes at)
+  module _ (at found : ℕ) (reached : windows_to q listing (windows_of q) ≡ Ok at)
       (found_is : found ≡ found_to q listing (windows_of q)) where
     -- those that are not found are refused
     refused_rest : windows_of q - found ≡ refused_to q listing (windows_of q)
@@ -39,19 +37,19 @@ module _ (q : Question) (listing : List ℕ) where
       unfolding listing_said listing_walk
       closing_answer c e = rw (reached, e, refused_is ∙ refused_rest, found_is)
 
-      pub closing_stopped : (why : Refusal) → Stops why ≡ closing_from listing found refused at
-          → checked_said (Refused why) ≡ listing_said q listing
-      closing_stopped why e = closing_answer (Stops why) e
+      pub closing_stopped : (why : Refusal) → Err why ≡ closing_from listing found refused at
+          → checked_said (Err why) ≡ listing_said q listing
+      closing_stopped why e = closing_answer (Err why) e
 
-      pub closing_kept : (next : ℕ) → Goes next ≡ closing_from listing found refused at
-          → checked_said (Kept found refused) ≡ listing_said q listing
-      closing_kept next e = closing_answer (Goes next) e
+      pub closing_kept : (next : ℕ) → Ok next ≡ closing_from listing found refused at
+          → checked_said (kept found refused) ≡ listing_said q listing
+      closing_kept next e = closing_answer (Ok next) e
 
   -- ---- 2, 3, 4 before it
 
   -- what they refuse stays so
   pub check_refused : (o : Outcome) (why : Refusal) → o ≡ RefusedOutcome why → outcome_said o ≡ shape_said q
-      → checked_said (Refused why) ≡ check_of q listing
+      → checked_said (Err why) ≡ check_of q listing
   unfolding check_of
   check_refused o why e d = rw (← d, e)
 

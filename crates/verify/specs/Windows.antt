@@ -4,6 +4,7 @@ use Rattle.std.specs.Prelude.{◌≡◌, Bool, List, eqb, length, get_or, replic
 use Rattle.std.proofs.Math.Path.{refl, ap}
 use Rattle.std.proofs.Common.{sym, ◌∙◌, subst, add-zero, add-suc, add-one, arith}
 use Prim.Native.Nat.{ℕ, zero, suc, ◌+◌, ◌-◌, ◌*◌, ◌≤◌, ◌<◌}
+use Rattle.std.proofs.lemmas.List.{length-replicate}
 use Rattle.theory.specs.Test.{pick}
 use Rattle.theory.specs.Older.Laws.{older_zeros}
 use Rattle.theory.specs.Count.{count}
@@ -18,24 +19,24 @@ use Rattle.matching.specs.Windows.Laws.{placed_window}
 use Rattle.cells.specs.declared.windows.WindowPlace.{WindowPlace}
 use Rattle.sweep.specs.Sweep.{SidesOf}
 use Rattle.inheriting.specs.Inheritance.{CheckTables}
+use Rattle.inheriting.specs.declared.tables.Tables.{Tables}
 use Rattle.inheriting.specs.Offsets.Laws.{prepared_none}
-use Rattle.claims.specs.declared.walks.Walk.{Walk}
-use Rattle.claims.specs.declared.walks.Walk.TheVariants.{Goes, Stops}
+use Rattle.claims.specs.Claims.{Walk}
+use Rattle.std.specs.Prelude.{Result, Ok, Err, Option, Some, None}
 use Rattle.rules.specs.Check.{entry_from, place_in, windows_to, stands_found, found_to}
 use Rattle.rules.specs.Entries.{goes_found}
-use Rattle.verify.specs.declared.windows.Walked.{Walked}
-use Rattle.verify.specs.declared.windows.Walked.TheVariants.{Passed, Stopped}
+use Rattle.verify.specs.declared.windows.Passed.{Passed}
 
 -- where all windows end, and how many stand as found; or the first bad record
-abbrev pub WindowsWalked : Question → List ℕ → Walked → Type 0
-WindowsWalked q listing (Passed at found) =
-    (windows_to q listing (windows_of q) ≡ Goes at) × (found ≡ found_to q listing (windows_of q))
-WindowsWalked q listing (Stopped why) = windows_to q listing (windows_of q) ≡ Stops why
+abbrev pub WindowsWalked : Question → List ℕ → Result Passed Refusal → Type 0
+WindowsWalked q listing (Ok passed) =
+    (windows_to q listing (windows_of q) ≡ Ok passed.at) × (passed.found ≡ found_to q listing (windows_of q))
+WindowsWalked q listing (Err why) = windows_to q listing (windows_of q) ≡ Err why
 
 -- ---- from window to window
 
 module _ (q : Question) (listing : List ℕ) where
-  pub windows_none : windows_to q listing 0 ≡ Goes 0
+  pub windows_none : windows_to q listing 0 ≡ Ok 0
   unfolding windows_to
   windows_none = refl
 
@@ -44,25 +45,25 @@ module _ (q : Question) (listing : List ℕ) where
   found_none = refl
 
   -- one window more, where the walk goes on
-  windows_next : (k at : ℕ) → windows_to q listing k ≡ Goes at
+  windows_next : (k at : ℕ) → windows_to q listing k ≡ Ok at
       → windows_to q listing (k + 1) ≡ entry_from q.text.cells q.pattern.cells (place_in q k) listing at
   unfolding windows_to
   windows_next k at e = rw (add-one k, e)
 
   -- where it has stopped, it stays so
-  windows_stay : (why : Refusal) (k m : ℕ) → windows_to q listing k ≡ Stops why
-      → windows_to q listing (k + m) ≡ Stops why
+  windows_stay : (why : Refusal) (k m : ℕ) → windows_to q listing k ≡ Err why
+      → windows_to q listing (k + m) ≡ Err why
   unfolding windows_to
   windows_stay why k zero e = rw (add-zero k) e
   windows_stay why k (suc m) e = rw (add-suc k m, windows_stay why k m e)
 
-  pub windows_stopped : (why : Refusal) (k n : ℕ) → k ≤ n → windows_to q listing k ≡ Stops why
-      → windows_to q listing n ≡ Stops why
+  pub windows_stopped : (why : Refusal) (k n : ℕ) → k ≤ n → windows_to q listing k ≡ Err why
+      → windows_to q listing n ≡ Err why
   windows_stopped why k n h e =
       ap (windows_to q listing) (omega arith) ∙ windows_stay why k (n - k) e
 
   -- what the records at a place say, of the window that is due there
-  module _ (k at : ℕ) (v : WindowPlace) (reached : windows_to q listing k ≡ Goes at)
+  module _ (k at : ℕ) (v : WindowPlace) (reached : windows_to q listing k ≡ Ok at)
       (v_is : v ≡ place_in q k) where
     pub windows_step : (c : Walk) → c ≡ entry_from q.text.cells q.pattern.cells v listing at
         → windows_to q listing (k + 1) ≡ c
@@ -71,7 +72,7 @@ module _ (q : Question) (listing : List ℕ) where
         ∙ ap (λ (u : WindowPlace). entry_from q.text.cells q.pattern.cells u listing at) v_is)
 
     -- one more is found where a found record stands
-    pub found_step : (found next r : ℕ) → Goes next ≡ entry_from q.text.cells q.pattern.cells v listing at
+    pub found_step : (found next r : ℕ) → Ok next ≡ entry_from q.text.cells q.pattern.cells v listing at
         → found ≡ found_to q listing k → r ≡ pick (eqb (get_or listing at 0) 1) (found + 1) found
         → r ≡ found_to q listing (k + 1)
     unfolding found_to count stands_found
@@ -96,37 +97,45 @@ window_asks text pattern s shape size k h v e =
 -- ---- what is kept from window to window
 
 -- before the first window nothing is
-pub tables_none : (text pattern : List ℕ) (columns height width : ℕ) (offsets selves tops : List ℕ)
-    → SidesOf pattern height width → columns ≤ 255 → offsets ≡ replicate 257 0 → selves ≡ replicate 256 0
-    → tops ≡ replicate 256 0
-    → CheckTables text pattern columns height width offsets selves tops
-tables_none text pattern columns height width offsets selves tops sides narrow f s t =
+pub tables_none : (text pattern : List ℕ) (columns height width : ℕ) (tables : Tables) → SidesOf pattern height width
+    → columns ≤ 255 → tables.offsets ≡ None → tables.selves ≡ replicate 256 0 → tables.tops ≡ replicate 256 None
+    → CheckTables text pattern columns height width tables
+tables_none text pattern columns height width tables sides narrow f s t =
     record {
       above = record {
         sides = sides;
         narrow = narrow;
-        tops_are = record { long = (older_zeros 1 tops (omega arith) t).long; each = λ j h. absurd (none tops t j h) };
+        tops_are = record {
+          long = rw t (length-replicate {A = Option ℕ} 256 None);
+          each = λ j row e. absurd (none j row (rw t at e));
+        };
         owned = record {
-          long = (older_zeros 1 selves (omega arith) s).long;
-          made = λ h. absurd (none selves s 0 h);
+          long = (older_zeros 1 tables.selves (omega arith) s).long;
+          made = λ h. absurd (unmade tables.selves s h);
         };
       };
-      prepared = prepared_none pattern columns width offsets f;
+      prepared = rw f (prepared_none pattern columns width);
     }
   where
-    none : (l : List ℕ) → l ≡ replicate 256 0 → (j : ℕ) → 0 < get_or l j 0 → ⊥
-    none l e j h = omega (arith, (older_zeros 1 l (omega arith) e).below j)
+    unmade : (l : List ℕ) → l ≡ replicate 256 0 → 0 < get_or l 0 0 → ⊥
+    unmade l e h = omega (arith, (older_zeros 1 l (omega arith) e).below 0)
 
-module _ (text pattern : List ℕ) (columns height width k : ℕ) (v : WindowPlace) (offsets selves tops : List ℕ)
+    nones : (n j : ℕ) → get_or (replicate {A = Option ℕ} n None) j None ≡ None
+    nones zero j = refl
+    nones (suc n) zero = refl
+    nones (suc n) (suc j) = nones n j
+
+    none : (j row : ℕ) → get_or (replicate {A = Option ℕ} 256 None) j None ≡ Some row → ⊥
+    none j row e = cc (nones 256 j)
+
+module _ (text pattern : List ℕ) (columns height width k : ℕ) (v : WindowPlace) (tables : Tables)
     (e : v ≡ window_place columns height width k) where
   -- what is known of the text is known to window k
-  pub tables_window : CheckTables text pattern columns height width offsets selves tops
-      → CheckTables text pattern v.columns v.height v.width offsets selves tops
-  tables_window a =
-      subst (λ (u : WindowPlace). CheckTables text pattern u.columns u.height u.width offsets selves tops) (sym e) a
+  pub tables_window : CheckTables text pattern columns height width tables
+      → CheckTables text pattern v.columns v.height v.width tables
+  tables_window a = subst (λ (u : WindowPlace). CheckTables text pattern u.columns u.height u.width tables) (sym e) a
 
   -- and the other way round
-  pub tables_place : CheckTables text pattern v.columns v.height v.width offsets selves tops
-      → CheckTables text pattern columns height width offsets selves tops
-  tables_place a =
-      subst (λ (u : WindowPlace). CheckTables text pattern u.columns u.height u.width offsets selves tops) e a
+  pub tables_place : CheckTables text pattern v.columns v.height v.width tables
+      → CheckTables text pattern columns height width tables
+  tables_place a = subst (λ (u : WindowPlace). CheckTables text pattern u.columns u.height u.width tables) e a

@@ -5,31 +5,22 @@ ghost use Rattle.theory.specs.Bytes.{Bytes};
 ghost use Rattle.shapes.specs.Questions.{Posed, ask, asked};
 ghost use Rattle.rules.specs.Check.{checked_said, listing_said, check_of};
 
-use crate::windows::{Walked, check_windows};
-use claims::walks::Walk;
-use refusals::refusals::Outcome;
-use rules::checked::Checked;
+use crate::windows::{Passed, check_windows};
+use refusals::refusals::{Outcome, Refusal};
+use rules::checked::Tally;
 use rules::closing::check_closing;
 use shapes::shapes::{Shape, question_outcome};
 
 // The check where sides and cells are good.
-fn check_listing(text: &[u8], pattern: &[u8], s: Shape, listing: &[u8]) -> Checked
+fn check_listing(text: &[u8], pattern: &[u8], s: Shape, listing: &[u8]) -> Result<Tally, Refusal>
     requires { Posed (asked text.now pattern.now s) }
     ensures { checked_said result ≡ listing_said (asked text.now pattern.now s) listing.now }
 {
-    let walked = check_windows(text, pattern, s, listing);
-    match walked {
-        Walked::Stopped(why) => Checked::Refused(why),
-        Walked::Passed { at, found } => {
-            let windows = (s.rows + 1 - s.height) * (s.columns + 1 - s.width);
-            let refused = (windows - found as usize) as u16;
-            let last = check_closing(listing, found, refused, at);
-            match last {
-                Walk::Stops(why) => Checked::Refused(why),
-                Walk::Goes(_) => Checked::Kept { found, refused },
-            }
-        }
-    }
+    let Passed { at, found } = check_windows(text, pattern, s, listing)?;
+    let windows = (s.rows + 1 - s.height) * (s.columns + 1 - s.width);
+    let refused = (windows - usize::from(found)) as u16;
+    let _end = check_closing(listing, found, refused, at)?;
+    Ok(Tally { found, refused })
 }
 
 // Checks a listing for a text and a pattern. Refused by 2, 3, 4, then by 6 or 7 with the place of the first bad record.
@@ -43,7 +34,7 @@ pub fn check(
     height: usize,
     width: usize,
     listing: &[u8],
-) -> Checked
+) -> Result<Tally, Refusal>
     ensures result_value { checked_said result
         ≡ check_of (ask text.now rows columns pattern.now height width) listing.now }
     ensures bytes { Bytes text.now × Bytes pattern.now × Bytes listing.now }
@@ -56,7 +47,7 @@ pub fn check(
     };
     let outcome = question_outcome(text, pattern, s);
     match outcome {
-        Outcome::Refused(why) => Checked::Refused(why),
+        Outcome::Refused(why) => Err(why),
         Outcome::Accepted => check_listing(text, pattern, s, listing),
     }
 }

@@ -9,22 +9,21 @@ ghost use Rattle.inheriting.specs.Inheritance.{CheckTables};
 ghost use Rattle.verify.specs.Windows.{WindowsWalked};
 
 use cells::windows::WindowPlace;
-use claims::walks::Walk;
-use inheriting::offsets::unmade_offsets;
+use inheriting::tables::Tables;
 use judging::entries::check_entry;
+use listing::records::Kind;
 use marking::marks::symbol_set;
 use matching::windows::next_window;
 use refusals::refusals::Refusal;
-use rows::places::no_positions;
 use sets::symbols::list_symbols;
 use shapes::shapes::Shape;
-use shapes::tables::{no_entries, no_symbols};
+use shapes::tables::no_symbols;
 
-// Where the windows end, and how many of them stand as found; or the first bad record.
-#[derive(Clone, Copy)]
-pub enum Walked {
-    Passed { at: usize, found: u16 },
-    Stopped(Refusal),
+// Where the windows end, and how many of them stand as found.
+#[derive(Clone, Copy, Debug, PartialEq, Eq)]
+pub struct Passed {
+    pub at: usize,
+    pub found: u16,
 }
 
 // The windows found so far, and one more where a found record stands.
@@ -32,28 +31,26 @@ fn found_after(found: u16, kind: u8) -> u16
     requires { found < 65535 }
     ensures { result ≡ pick (eqb kind 1) (found + 1) found }
 {
-    if kind == 1 {
+    if kind == u8::from(Kind::Found) {
         return found + 1;
     }
     found
 }
 
-// The records of every window, from the listing's first byte, with tables that no window has used yet.
+// The records of every window, from the listing's first byte, with tables that no window has used yet; or the first bad
+// record. Each window is marked with a number 256 above the last one's, so that the table of symbols given is not
+// emptied for it.
 fn walk_windows(
     text: &[u8],
     pattern: &[u8],
     s: Shape,
     symbols: &[u8],
-    given: &mut [u32; 256],
-    offsets: &mut [usize; 257],
-    selves: &mut [usize; 256],
-    tops: &mut [usize; 256],
+    tables: &mut Tables,
     listing: &[u8],
-) -> Walked
+) -> Result<Passed, Refusal>
     requires { ShapeOf s (length text.now) × (length pattern.now ≡ s.height * s.width)
-        × (symbols.now ≡ symbols_of pattern.now) × Older 256 given.old
-        × CheckTables text.now pattern.now s.columns s.height s.width offsets.old selves.old
-        tops.old }
+        × (symbols.now ≡ symbols_of pattern.now) × Older 256 tables.old.given
+        × CheckTables text.now pattern.now s.columns s.height s.width tables.old }
     ensures { WindowsWalked (asked text.now pattern.now s) listing.now result }
 {
     let across = s.columns + 1 - s.width;
@@ -68,49 +65,30 @@ fn walk_windows(
     let mut base = 256;
     let mut at = 0;
     let mut found = 0u16;
-    let mut k = 0;
-    while k < n {
-        let step = check_entry(
-            text, v, pattern, symbols, base, given, offsets, selves, tops, listing, at,
-        );
-        match step {
-            Walk::Stops(why) => {
-                return Walked::Stopped(why);
-            }
-            Walk::Goes(next) => {
-                found = found_after(found, listing[at]);
-                at = next;
-            }
-        }
+    for k in 0..n {
+        let next = check_entry(text, v, pattern, symbols, base, tables, listing, at)?;
+        found = found_after(found, listing[at]);
+        at = next;
         v = next_window(v, across);
         base += 256;
-        k += 1;
     }
-    Walked::Passed { at, found }
+    Ok(Passed { at, found })
 }
 
 // The records of every window, from the listing's first byte. The pattern's symbols are listed once, and not again for
 // each window; nothing else is prepared before a found record asks for it.
-pub fn check_windows(text: &[u8], pattern: &[u8], s: Shape, listing: &[u8]) -> Walked
+pub fn check_windows(
+    text: &[u8],
+    pattern: &[u8],
+    s: Shape,
+    listing: &[u8],
+) -> Result<Passed, Refusal>
     requires { ShapeOf s (length text.now) × (length pattern.now ≡ s.height * s.width) }
     ensures { WindowsWalked (asked text.now pattern.now s) listing.now result }
 {
     let set = symbol_set(pattern);
     let mut listed = no_symbols();
     let d = list_symbols(set, &mut listed);
-    let mut given = no_entries();
-    let mut offsets = unmade_offsets();
-    let mut selves = no_positions();
-    let mut tops = no_positions();
-    walk_windows(
-        text,
-        pattern,
-        s,
-        &listed[..d],
-        &mut given,
-        &mut offsets,
-        &mut selves,
-        &mut tops,
-        listing,
-    )
+    let mut tables = Tables::new();
+    walk_windows(text, pattern, s, &listed[..d], &mut tables, listing)
 }

@@ -13,7 +13,7 @@ use Rattle.reading.specs.Reader.Answers.{WholeAt, read_whole, refused_none}
 use Rattle.reading.specs.Reader.RoundTrip.{bytes_some, size_is}
 use Rattle.listing.specs.declared.records.Record.{Record}
 use Rattle.reading.specs.declared.reader.Cursor.{Cursor}
-use Rattle.reading.specs.declared.reader.Read.TheVariants.{Whole, Refused}
+use Rattle.std.specs.Prelude.{Ok, Err}
 use Rattle.claims.specs.Claims.{byte_at, stands}
 
 module _ (listing : List ℕ) (at : ℕ) where
@@ -26,11 +26,11 @@ module _ (listing : List ℕ) (at : ℕ) where
   stands_within kind s = let t = says_true (stands_tested kind) s in omega (arith, t.1.within, ap kind_size t.0)
 
   -- the reader refuses: no record of any kind stands there
-  pub refused_stands : (why : Refusal) → read_said (Refused why) ≡ cursor_said listing at → (kind : ℕ)
+  pub refused_stands : (why : Refusal) → read_said (Err why) ≡ cursor_said listing at → (kind : ℕ)
       → stands listing kind at ≡ false
   refused_stands why r kind = is_false (stands_tested kind) (λ h. refused_none listing at why r h.1)
 
-  module _ (r : Record) (next : Cursor) (reads : read_said (Whole r next) ≡ cursor_said listing at) where
+  module _ (r : Record) (next : Cursor) (reads : read_said (Ok (r, next)) ≡ cursor_said listing at) where
     whole : WholeAt listing at r next
     whole = read_whole listing at r next reads
 

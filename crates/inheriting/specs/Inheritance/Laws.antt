@@ -1,7 +1,7 @@
 -- Laws of inheritance: what is carried follows, and what follows is carried; the window below follows in the rows that
 -- are not new.
 -- Assumes nothing.
-use Rattle.std.specs.Prelude.{◌≡◌, Bool, false, List, ℕ, ◌+◌, ◌-◌, ◌*◌, ◌≤◌, ◌<◌, length, get_or, set}
+use Rattle.std.specs.Prelude.{◌≡◌, Bool, false, List, ℕ, ◌+◌, ◌-◌, ◌*◌, ◌≤◌, ◌<◌, length, get_or, set, Option, Some, None}
 use Rattle.std.proofs.Common.{sym, ◌∙◌, ap, add-mul, zero-mul, mul-le-mul_right, arith, length-set, get_or-set_same, get_or-set_other}
 use Rattle.theory.specs.Test.{Tested, holds, fails}
 use Rattle.theory.specs.Test.Laws.{eq_tested}
@@ -53,8 +53,8 @@ own_ends_all pattern height width selves earlies sides owns =
 
 module _ (text pattern : List ℕ) (v : WindowPlace) (above k end : ℕ) (some : 0 < v.width)
     (size : length pattern ≡ cell_count v)
-    (known : Follows (cell_of_pattern pattern) (window_at text v.columns (above - 1) v.column v.width) (cell_count v))
-    (one : 0 < above) (over : above ≤ v.row) (gap : k ≡ v.row + 1 - above) (short : k < v.height)
+    (known : Follows (cell_of_pattern pattern) (window_at text v.columns above v.column v.width) (cell_count v))
+    (over : above < v.row) (gap : k ≡ v.row - above) (short : k < v.height)
     (own : end ≡ own_end_of pattern (k * v.width)) (whole : length pattern - k * v.width ≤ end) where
   -- the rows that are not new
   pub rows_left : (v.height - k) * v.width ≡ length pattern - k * v.width
@@ -70,18 +70,18 @@ module _ (text pattern : List ℕ) (v : WindowPlace) (above k end : ℕ) (some :
       omega (arith, f, add-mul k (v.height - k) v.width, size)
 
   -- position p of the window is that one's, k rows further down
-  place_same : (p : ℕ) → v.row * v.width + p ≡ (above - 1) * v.width + (k * v.width + p)
+  place_same : (p : ℕ) → v.row * v.width + p ≡ above * v.width + (k * v.width + p)
   place_same p =
-      let r : above - 1 + k ≡ v.row = omega arith in
-      let f : (above - 1 + k) * v.width ≡ v.row * v.width = ap (λ (x : ℕ). x * v.width) r in
-      omega (arith, f, add-mul (above - 1) k v.width)
+      let r : above + k ≡ v.row = omega arith in
+      let f : (above + k) * v.width ≡ v.row * v.width = ap (λ (x : ℕ). x * v.width) r in
+      omega (arith, f, add-mul above k v.width)
 
   window_lower : (p : ℕ) → window_of text v p
-      ≡ window_at text v.columns (above - 1) v.column v.width (k * v.width + p)
+      ≡ window_at text v.columns above v.column v.width (k * v.width + p)
   window_lower p =
       window_strip text v.columns v.row v.column v.width p some
       ∙ ap (strip_at text v.columns v.column v.width) (place_same p)
-      ∙ sym (window_strip text v.columns (above - 1) v.column v.width (k * v.width + p) some)
+      ∙ sym (window_strip text v.columns above v.column v.width (k * v.width + p) some)
 
   -- the pattern's rows from k on have no mismatch with its first rows
   own_clear : (j : ℕ) → j < length pattern - k * v.width
@@ -110,8 +110,8 @@ module _ (text pattern : List ℕ) (v : WindowPlace) (above k end : ℕ) (some :
 
 -- ---- from window to window
 
-module _ (text pattern : List ℕ) (columns height width : ℕ) (selves tops : List ℕ)
-    (here : Above text pattern columns height width selves tops) where
+module _ (text pattern : List ℕ) (columns height width : ℕ) (selves : List ℕ)
+    (tops : List (Option ℕ)) (here : Above text pattern columns height width selves tops) where
   -- the own ends are made
   pub above_made : (made : List ℕ) → OwnEndsMade pattern height width made
       → Above text pattern columns height width made tops
@@ -126,30 +126,27 @@ module _ (text pattern : List ℕ) (columns height width : ℕ) (selves tops : L
   -- one more window follows
   pub above_more : (row column : ℕ) → column < columns
       → Follows (cell_of_pattern pattern) (window_at text columns row column width) (height * width)
-      → Above text pattern columns height width selves (set tops column (row + 1))
+      → Above text pattern columns height width selves (set tops column (Some row))
   above_more row column inside follows =
       record {
         sides = here.sides;
         narrow = here.narrow;
         tops_are = record {
           long = rw length-set here.tops_are.long;
-          each = λ j l. go j l (eq_tested j column);
+          each = λ j r l. go j r l (eq_tested j column);
         };
         owned = here.owned;
       }
     where
-      go : (j : ℕ) {t : Bool} → 0 < get_or (set tops column (row + 1)) j 0 → Tested (j ≡ column) t
-          → Follows (cell_of_pattern pattern) (window_at text columns (get_or (set tops column (row + 1)) j 0 - 1) j width)
-          (height * width)
-      go j l (holds e) =
-          let s : get_or (set tops column (row + 1)) column 0 ≡ row + 1 =
-          get_or-set_same tops column (row + 1) 0 (omega (arith, here.tops_are.long, here.narrow)) in
-          let b : row + 1 - 1 ≡ row = omega arith in
-          rw (e, s, b) follows
-      go j l (fails d) =
-          let o : get_or (set tops column (row + 1)) j 0 ≡ get_or tops j 0 =
-          get_or-set_other tops column j (row + 1) 0 d in
-          rw o (here.tops_are.each j (rw o at l))
+      go : (j r : ℕ) {t : Bool} → get_or (set tops column (Some row)) j None ≡ Some r → Tested (j ≡ column) t
+          → Follows (cell_of_pattern pattern) (window_at text columns r j width) (height * width)
+      go j r l (holds e) =
+          let s : get_or (set tops column (Some row)) column None ≡ Some row =
+          get_or-set_same tops column (Some row) None (omega (arith, here.tops_are.long, here.narrow)) in
+          let b : r ≡ row = cc (ap (λ (k : ℕ). get_or (set tops column (Some row)) k None) e) in
+          rw (e, b) follows
+      go j r l (fails d) =
+          here.tops_are.each j r (sym (get_or-set_other tops column j (Some row) None d) ∙ l)
 
 -- ---- small numbers
 

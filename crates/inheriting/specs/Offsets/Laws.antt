@@ -1,11 +1,9 @@
 -- Laws of offsets: a table filled symbol by symbol has them all; they are small, and lead from a window's corner to
 -- cells of the text.
 -- Assumes nothing.
-use Rattle.std.specs.Prelude.{◌≡◌, refl, Bool, true, List, ℕ, ◌+◌, ◌*◌, ◌/◌, ◌≤◌, ◌<◌, length, get_or, set, replicate}
+use Rattle.std.specs.Prelude.{◌≡◌, refl, Bool, true, List, ℕ, ◌+◌, ◌*◌, ◌/◌, ◌≤◌, ◌<◌, length, get_or, set, Option, Some, None}
 use Rattle.std.proofs.Common.{sym, ◌∙◌, ap, add-mul, mul-le-mul, arith, length-set, get_or-set_same, get_or-set_other}
-use Rattle.std.proofs.lemmas.List.{length-replicate}
 use Rattle.theory.specs.Bytes.{Bytes}
-use Rattle.theory.specs.Older.Laws.{zeros_at}
 use Rattle.theory.specs.Test.{Tested, holds, fails}
 use Rattle.theory.specs.Test.Laws.{eq_tested, is_true, says_true}
 use Rattle.theory.specs.Count.Laws.{members_all}
@@ -18,7 +16,7 @@ use Rattle.cells.specs.declared.windows.WindowPlace.{WindowPlace}
 use Rattle.matching.specs.Compare.{cell_of_pattern, cell_count, Placed}
 use Rattle.matching.specs.Compare.Positions.{position_inside}
 use Rattle.prefixes.specs.State.{FirstPlaces}
-use Rattle.inheriting.specs.Offsets.{corner_of, Offsets, Prepared, OffsetsUpTo, ImagesInside}
+use Rattle.inheriting.specs.Offsets.{corner_of, Offsets, Prepared, Made, OffsetsUpTo, ImagesInside}
 
 -- the first place of a symbol that the pattern has lies in the pattern
 place_inside : (pattern first : List ℕ) (a : ℕ) → FirstPlaces (cell_of_pattern pattern) (length pattern) first
@@ -31,19 +29,22 @@ place_inside pattern first a places has =
 
 -- ---- the table is made
 
--- before that it is a table of zeros
-pub prepared_none : (pattern : List ℕ) (columns width : ℕ) (offsets : List ℕ) → offsets ≡ replicate 257 0
-    → Prepared pattern columns width offsets
-prepared_none pattern columns width offsets e =
-    record { long = ap length e ∙ length-replicate {A = ℕ} 257 0; made = λ h. absurd (none h) }
-  where
-    none : 0 < get_or offsets 256 0 → ⊥
-    none h = let zero_there = ap (λ (l : List ℕ). get_or l 256 0) e in omega (arith, zero_there, zeros_at 257 256)
+-- before that there is none
+pub prepared_none : (pattern : List ℕ) (columns width : ℕ) → Prepared pattern columns width None
+prepared_none pattern columns width = record { made = λ table e. absurd (cc) }
 
 -- and afterwards it stays as it is
-pub prepared_made : (pattern : List ℕ) (columns width : ℕ) (offsets : List ℕ) → Offsets pattern columns width offsets
-    → Prepared pattern columns width offsets
-prepared_made pattern columns width offsets leads = record { long = leads.long; made = λ _. leads }
+pub prepared_made : (pattern : List ℕ) (columns width : ℕ) (offsets : Option (List ℕ))
+    → Made pattern columns width offsets → Prepared pattern columns width offsets
+prepared_made pattern columns width offsets here =
+    record { made = λ table e. let same : table ≡ here.table = cc (e, here.table_is) in rw same here.leads }
+
+-- where it is asked for, it is there
+pub made_some : (pattern : List ℕ) (columns width : ℕ) (offsets : Option (List ℕ)) → Prepared pattern columns width offsets
+    → (offsets ≡ None → ⊥) → Made pattern columns width offsets
+made_some pattern columns width None here some = absurd (some refl)
+made_some pattern columns width (Some table) here some =
+    record { table = table; table_is = refl; leads = here.made table refl }
 
 -- the first place of a listed symbol is a small number
 pub place_small : (pattern symbols first : List ℕ) (height width i : ℕ)
@@ -54,7 +55,7 @@ place_small pattern symbols first height width i places e h cells tall broad =
     omega (arith, inside, cells, mul-le-mul tall broad)
 
 module _ (columns width : ℕ) (symbols first : List ℕ) where
-  pub offsets_to_none : (offsets : List ℕ) → length offsets ≡ 257 → OffsetsUpTo columns width symbols first 0 offsets
+  pub offsets_to_none : (offsets : List ℕ) → length offsets ≡ 256 → OffsetsUpTo columns width symbols first 0 offsets
   offsets_to_none offsets l = record { long = l; each = λ j h. absurd (none j h) }
     where
       none : (j : ℕ) → j < 0 → ⊥

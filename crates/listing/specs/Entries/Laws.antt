@@ -12,9 +12,7 @@ use Rattle.theory.specs.Match.{Maps, matched, mismatched}
 use Rattle.sets.specs.Symbols.{symbols_of}
 use Rattle.occurrences.specs.Distinct.{contains}
 use Rattle.occurrences.specs.Distinct.Sets.{contains_tested}
-use Rattle.theory.specs.Test.{pick}
-use Rattle.listing.specs.Records.{bytes_of, mismatch_bytes}
-use Rattle.listing.specs.declared.records.MismatchBody.{MismatchBody}
+use Rattle.listing.specs.Records.{bytes_of}
 use Rattle.listing.specs.declared.records.Record.{Record}
 use Rattle.listing.specs.declared.records.Record.TheVariants.{Found, Pair}
 use Rattle.listing.specs.Entries.{bytes_all, pairs_of, mismatch_body_at, mismatch_record, entry_of, RightPairs}
@@ -83,12 +81,6 @@ right_pairs pattern w n image bytes maps =
     record { rising = members_rising (contains pattern) 256; just = symbols_just pattern bytes; maps = maps }
 
 -- ---- entries
-
--- the kind by the side alike
-pub kind_bytes : (alike : Bool) (body : MismatchBody) (kind : ℕ) → kind ≡ pick alike 3 4
-    → kind ∷ mismatch_bytes body ≡ bytes_of (mismatch_record alike body)
-kind_bytes true body kind e = rw e
-kind_bytes false body kind e = rw e
 
 module _ (row column width : ℕ) (symbols : List ℕ) (image : ℕ → ℕ) where
   pub entry_found : entry_of row column width symbols image matched ≡ Found row column ∷ pairs_of image symbols

@@ -12,7 +12,7 @@ use Rattle.matching.specs.Compare.{cell_of_pattern, window_of, cell_count}
 use Rattle.listing.specs.Records.{kind_size}
 use Rattle.claims.specs.Claims.{stands, pairs_from}
 use Rattle.claims.specs.Claims.Standing.{stands_tested}
-use Rattle.claims.specs.declared.walks.Walk.TheVariants.{Goes}
+use Rattle.std.specs.Prelude.{Ok}
 use Rattle.pairs.specs.Pairs.{FoundWindow, Marked, PairRead, image_carried}
 use Rattle.pairs.specs.Pairs.Reading.{read_right}
 use Rattle.inheriting.specs.Offsets.{image_from_behind}
@@ -56,7 +56,7 @@ plain_read : (text : List ℕ) (v : WindowPlace) (pattern : List ℕ) (corner : 
     (listing : List ℕ) (at : ℕ) (given old new : List ℕ)
     → FoundWindow text v pattern true corner offsets → contains pattern a ≡ true → at + 3 ≤ length listing
     → PlainPair text corner offsets base old a listing at new → Marked base given old
-    → PairRead (cell_of_pattern pattern) (window_of text v) (cell_count v) listing a base at given (Goes (at + 3)) new
+    → PairRead (cell_of_pattern pattern) (window_of text v) (cell_count v) listing a base at given (Ok (at + 3)) new
 plain_read text v pattern corner offsets base a listing at given old new found has room p here =
     rw p.marked (read_right (cell_of_pattern pattern) (window_of text v) (cell_count v) listing a base at given old here
     (pair_stands listing at p.kind room) y refl p.byte p.symbol p.fresh
@@ -99,7 +99,7 @@ module _ (text : List ℕ) (corner : ℕ) (offsets : List ℕ) (base : ℕ) (sym
       more v pattern found listed left =
           left_passed (cell_of_pattern pattern) (window_of text v) (cell_count v) listing symbols base
           (pairs_from (cell_of_pattern pattern) (window_of text v) (cell_count v) listing (symbols_of pattern) [] at) i end marks
-          left (get_or symbols i 0) refl inside (Goes (end + 3)) new
+          left (get_or symbols i 0) refl inside (Ok (end + 3)) new
           (plain_read text v pattern corner offsets base (get_or symbols i 0) listing end left.before marks new found
           (listed_symbol pattern symbols listed i inside).1 room p left.marked)
           (end + 3) refl

@@ -18,10 +18,9 @@ use Rattle.reading.specs.Reader.{read_said, cursor_said}
 use Rattle.listing.specs.declared.records.Record.{Record}
 use Rattle.listing.specs.declared.records.Record.TheVariants.{Pair}
 use Rattle.reading.specs.declared.reader.Cursor.{Cursor}
-use Rattle.reading.specs.declared.reader.Read.{Read}
-use Rattle.reading.specs.declared.reader.Read.TheVariants.{Whole, Refused}
+use Rattle.reading.specs.Reader.{Read}
+use Rattle.std.specs.Prelude.{Ok, Err}
 use Rattle.claims.specs.Claims.{byte_at, stands, has_image_test, right_pair}
-use Rattle.claims.specs.declared.walks.Walk.TheVariants.{Goes, Stops}
 use Rattle.pairs.specs.Pairs.{Marked, PairRead}
 use Rattle.claims.specs.Claims.Standing.{refused_stands, whole_byte, whole_stands, whole_other, whole_next}
 
@@ -76,7 +75,7 @@ module _ (m w : ℕ → ℕ) (n : ℕ) (listing : List ℕ) (a : ℕ) (given : L
 module _ (m w : ℕ → ℕ) (n : ℕ) (listing : List ℕ) (a base at : ℕ) (given marks : List ℕ)
     (here : Marked base given marks) where
   -- no pair
-  read_form : stands listing 2 at ≡ false → PairRead m w n listing a base at given (Stops (ListingForm at)) marks
+  read_form : stands listing 2 at ≡ false → PairRead m w n listing a base at given (Err (ListingForm at)) marks
   read_form e =
       record {
         walk_is = rw e;
@@ -90,7 +89,7 @@ module _ (m w : ℕ → ℕ) (n : ℕ) (listing : List ℕ) (a base at : ℕ) (g
 
   -- a pair that is not right
   read_false : stands listing 2 at ≡ true → right_pair m w n listing a given at ≡ false
-      → PairRead m w n listing a base at given (Stops (ListingFalse at)) marks
+      → PairRead m w n listing a base at given (Err (ListingFalse at)) marks
   read_false s e =
       record {
         walk_is = rw (s, e);
@@ -105,7 +104,7 @@ module _ (m w : ℕ → ℕ) (n : ℕ) (listing : List ℕ) (a base at : ℕ) (g
   -- a pair that is right: the next one begins three bytes on, and its symbol is marked
   pub read_right : stands listing 2 at ≡ true → (y : ℕ) → byte_at listing at 2 ≡ y → y < 256 → byte_at listing at 1 ≡ a
       → (get_or marks y 0 ≡ base → ⊥) → has_image_test m w n a y ≡ true
-      → PairRead m w n listing a base at given (Goes (at + 3)) (set marks y base)
+      → PairRead m w n listing a base at given (Ok (at + 3)) (set marks y base)
   read_right there y second_is l first_is d image =
       record {
         walk_is = rw (there, right);
@@ -124,21 +123,21 @@ module _ (m w : ℕ → ℕ) (n : ℕ) (listing : List ℕ) (a base at : ℕ) (g
           )
 
   -- the reader refuses, or reads another kind
-  pub pair_refused : (answer : Read) (why : Refusal) → read_said answer ≡ cursor_said listing at → answer ≡ Refused why
-      → PairRead m w n listing a base at given (Stops (ListingForm at)) marks
+  pub pair_refused : (answer : Read) (why : Refusal) → read_said answer ≡ cursor_said listing at → answer ≡ Err why
+      → PairRead m w n listing a base at given (Err (ListingForm at)) marks
   unfolding kind_size
   pair_refused answer why reads e = read_form (refused_stands listing at why (rw e at reads) 2)
 
   pub pair_other_kind : (answer : Read) (r : Record) (next : Cursor) → read_said answer ≡ cursor_said listing at
-      → answer ≡ Whole r next → (get_or (bytes_of r) 0 0 ≡ 2 → ⊥)
-      → PairRead m w n listing a base at given (Stops (ListingForm at)) marks
+      → answer ≡ Ok (r, next) → (get_or (bytes_of r) 0 0 ≡ 2 → ⊥)
+      → PairRead m w n listing a base at given (Err (ListingForm at)) marks
   pair_other_kind answer r next reads e d = read_form (whole_other listing at r next (rw e at reads) 2 d)
 
   -- it reads a pair
   module _ (answer : Read) (r : Record) (next : Cursor) (x y : ℕ) (told : read_said answer ≡ cursor_said listing at)
-      (whole : answer ≡ Whole r next) (pair : r ≡ Pair x y) where
-    reads : read_said (Whole (Pair x y) next) ≡ cursor_said listing at
-    reads = rw (whole ∙ ap (λ (s : Record). Whole s next) pair) at told
+      (whole : answer ≡ Ok (r, next)) (pair : r ≡ Pair x y) where
+    reads : read_said (Ok (Pair x y, next)) ≡ cursor_said listing at
+    reads = rw (whole ∙ ap (λ (s : Record). Ok (s, next)) pair) at told
 
     there : stands listing 2 at ≡ true
     there = whole_stands listing at (Pair x y) next reads 2 refl
@@ -150,12 +149,12 @@ module _ (m w : ℕ → ℕ) (n : ℕ) (listing : List ℕ) (a base at : ℕ) (g
     second_is = whole_byte listing at (Pair x y) next reads 2 (omega arith)
 
     -- of another symbol
-    pub pair_other : (x ≡ a → ⊥) → PairRead m w n listing a base at given (Stops (ListingFalse at)) marks
+    pub pair_other : (x ≡ a → ⊥) → PairRead m w n listing a base at given (Err (ListingFalse at)) marks
     pair_other d = read_false there (is_false (right_tested m w n listing a given at) (λ h. d (sym first_is ∙ h.0)))
 
     -- with a symbol that was given before
     pub pair_given : y < 256 → get_or marks y 0 ≡ base
-        → PairRead m w n listing a base at given (Stops (ListingFalse at)) marks
+        → PairRead m w n listing a base at given (Err (ListingFalse at)) marks
     pair_given l e = read_false there (is_false (right_tested m w n listing a given at) (λ h. true_false was h.1.1))
       where
         was : contains given (byte_at listing at 2) ≡ true
@@ -163,7 +162,7 @@ module _ (m w : ℕ → ℕ) (n : ℕ) (listing : List ℕ) (a base at : ℕ) (g
 
     -- with a symbol that does not stand in all of a's cells
     pub pair_unlike : (t : Bool) → t ≡ has_image_test m w n a y → t ≡ false
-        → PairRead m w n listing a base at given (Stops (ListingFalse at)) marks
+        → PairRead m w n listing a base at given (Err (ListingFalse at)) marks
     pair_unlike t i e =
         read_false there
         (is_false (right_tested m w n listing a given at)
@@ -171,6 +170,6 @@ module _ (m w : ℕ → ℕ) (n : ℕ) (listing : List ℕ) (a base at : ℕ) (g
 
     -- that is right
     pub pair_right : x ≡ a → y < 256 → (get_or marks y 0 ≡ base → ⊥) → (t : Bool) → t ≡ has_image_test m w n a y → t ≡ true
-        → PairRead m w n listing a base at given (Goes next.at) (set marks y base)
+        → PairRead m w n listing a base at given (Ok next.at) (set marks y base)
     pair_right e l d t i f =
         rw (whole_next listing at (Pair x y) next reads) (read_right there y second_is l (first_is ∙ e) d (sym i ∙ f))

@@ -12,8 +12,8 @@ use Rattle.sets.specs.Symbols.{symbols_of}
 use Rattle.refusals.specs.declared.refusals.Refusal.{Refusal}
 use Rattle.refusals.specs.declared.refusals.Refusal.TheVariants.{ListingForm, ListingFalse}
 use Rattle.claims.specs.Claims.{or_stop, byte_at, stands, right_pair, pairs_from}
-use Rattle.claims.specs.declared.walks.Walk.{Walk}
-use Rattle.claims.specs.declared.walks.Walk.TheVariants.{Goes, Stops}
+use Rattle.claims.specs.Claims.{Walk}
+use Rattle.std.specs.Prelude.{Ok, Err}
 use Rattle.pairs.specs.Pairs.{Marked, PairRead}
 use Rattle.pairs.specs.Pairs.Reading.{marked_none}
 use Rattle.claims.specs.Walks.{goes_not_stops}
@@ -26,13 +26,13 @@ marks_next base marks u = record { long = u.long; below = λ b. omega (arith, u.
 
 -- where the walk stops, it does not matter what would come after
 stops_same : (s r : Bool) (one two why : Refusal) (at : ℕ) (after : Walk)
-    → Stops why ≡ or_stop s one (or_stop r two (Goes at)) → Stops why ≡ or_stop s one (or_stop r two after)
+    → Err why ≡ or_stop s one (or_stop r two (Ok at)) → Err why ≡ or_stop s one (or_stop r two after)
 stops_same true true one two why at after e = absurd (goes_not_stops at why (sym e))
 stops_same true false one two why at after e = e
 stops_same false r one two why at after e = e
 
 -- where it goes on, both have passed
-goes_same : (s r : Bool) (one two : Refusal) (next at : ℕ) → Goes next ≡ or_stop s one (or_stop r two (Goes at))
+goes_same : (s r : Bool) (one two : Refusal) (next at : ℕ) → Ok next ≡ or_stop s one (or_stop r two (Ok at))
     → (both s r ≡ true) × (next ≡ at)
 goes_same true true one two next at e = (refl, cc)
 goes_same true false one two next at e = absurd (goes_not_stops next two e)
@@ -67,7 +67,7 @@ module _ (m w : ℕ → ℕ) (n : ℕ) (listing symbols : List ℕ) (base : ℕ)
   module _ (whole : Walk) (i end : ℕ) (marks : List ℕ) (here : PairsLeft m w n listing symbols base whole i end marks)
     where
       -- none is left
-      pub symbols_left_none : length symbols ≤ i → Goes end ≡ whole
+      pub symbols_left_none : length symbols ≤ i → Ok end ≡ whole
       unfolding pairs_from
       symbols_left_none h =
           sym (here.walk_is ∙ ap (λ (xs : List ℕ). pairs_from m w n listing xs here.before end)
@@ -87,25 +87,25 @@ module _ (m w : ℕ → ℕ) (n : ℕ) (listing symbols : List ℕ) (base : ℕ)
         module _ (r : Walk) (new : List ℕ) (read : PairRead m w n listing a base end here.before r new) where
           walk : (c : Walk) → r ≡ c
               → c ≡ or_stop (stands listing 2 end) (ListingForm end)
-              (or_stop (right_pair m w n listing a here.before end) (ListingFalse end) (Goes (end + 3)))
+              (or_stop (right_pair m w n listing a here.before end) (ListingFalse end) (Ok (end + 3)))
           walk c e = sym e ∙ read.walk_is
 
-          pub left_stopped : (why : Refusal) → r ≡ Stops why → r ≡ whole
+          pub left_stopped : (why : Refusal) → r ≡ Err why → r ≡ whole
           left_stopped why e =
               e
               ∙ stops_same (stands listing 2 end) (right_pair m w n listing a here.before end) (ListingForm end)
               (ListingFalse end) why (end + 3)
               (pairs_from m w n listing (drop (i + 1) symbols) (byte_at listing end 2 ∷ here.before) (end + 3))
-              (walk (Stops why) (e))
+              (walk (Err why) (e))
               ∙ sym next_walk
 
           -- or goes on with one symbol less
-          pub left_passed : (next : ℕ) → r ≡ Goes next → PairsLeft m w n listing symbols base whole (i + 1) next new
+          pub left_passed : (next : ℕ) → r ≡ Ok next → PairsLeft m w n listing symbols base whole (i + 1) next new
           left_passed next e =
               let right =
               goes_same (stands listing 2 end) (right_pair m w n listing a here.before end) (ListingForm end)
               (ListingFalse end) next (end + 3)
-              (walk (Goes next) (e)) in
+              (walk (Ok next) (e)) in
               record {
                 before = byte_at listing end 2 ∷ here.before;
                 marked = read.marked right.0;

@@ -1,11 +1,10 @@
 -- Decimal digits: they spell the number, each is a digit, none but 0 begins with a zero. By the three sizes that a byte
 -- has.
 -- Assumes nothing.
-use Rattle.std.specs.Prelude.{◌≡◌, List, [], ◌∷◌, ℕ, zero, suc, ◌+◌, ◌/◌, ◌%◌, ◌≤◌, ◌<◌, length, get_or, set}
+use Rattle.std.specs.Prelude.{◌≡◌, List, [], ◌∷◌, ℕ, zero, suc, ◌+◌, ◌/◌, ◌%◌, ◌≤◌, ◌<◌, length, get_or}
 use Rattle.std.proofs.Common.{arith, lt-ltb, le-ltb}
 use Rattle.theory.specs.Test.{Tested, holds, fails}
 use Rattle.theory.specs.Test.Laws.{lt_tested}
-use Rattle.theory.specs.Written.{written, stores_at, stores_written}
 use Rattle.printing.specs.Decimal.{decimal, spelled, Digit}
 
 -- ---- one, two or three digits
@@ -80,14 +79,3 @@ at_most_three n = go (in_digits n)
     go (one h) = omega arith
     go (two h k) = omega arith
     go (three h) = omega arith
-
--- ---- digits stored one by one
-
--- bytes that are known to be these: there is room for them
-pub bytes_room : {bytes xs : List ℕ} (at n : ℕ) → bytes ≡ xs → at + length bytes ≤ n → at + length xs ≤ n
-bytes_room at n e h = rw e at h
-
--- and stored one by one they are written
-pub bytes_stored : {bytes : List ℕ} (a : ℕ) (xs l : List ℕ) (at : ℕ) → bytes ≡ a ∷ xs → at + length bytes ≤ length l
-    → (at + suc (length xs) ≡ at + length bytes) × (stores_at (set l at a) at 1 xs ≡ written l at bytes)
-bytes_stored a xs l at e h = (rw e, rw e (stores_written l at a xs (bytes_room at (length l) e h)))

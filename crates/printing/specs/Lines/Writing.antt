@@ -2,7 +2,7 @@
 -- Why it holds: what is left of a line is the line of the bytes that are left, and what is left of a listing is the
 -- bytes of the records that are left.
 -- Assumes nothing.
-use Rattle.std.specs.Prelude.{◌≡◌, refl, take, set}
+use Rattle.std.specs.Prelude.{◌≡◌, refl, Bool, take, Ok, Err}
 use Rattle.std.proofs.Math.Path.{sym, ap}
 use Rattle.std.proofs.Common.{◌∙◌, add-one, add-zero, length-append, length-drop, drop-drop, get_or-drop}
 use mathlib.Core.List.{List, [], ◌∷◌, ◌++◌}
@@ -10,19 +10,19 @@ use Prim.Native.Nat.{ℕ, suc, ◌+◌, ◌-◌, ◌*◌, ◌≤◌, ◌<◌}
 use native.Mathlib.Omega.{arith}
 use Rattle.std.proofs.Math.ListN.{length, get_or, drop, get_or-append, drop_of_length-le}
 use Rattle.std.proofs.Math.Seq.{drop-cons, take-append_seam, drop-append_seam}
-use Rattle.theory.specs.Written.{written, length-written, written-set}
+use Rattle.theory.specs.Test.{Tested, holds, fails}
+use Rattle.theory.specs.Test.Laws.{lt_tested}
+use Rattle.theory.specs.Written.{written}
 use Rattle.listing.specs.Records.{bytes_of, kind_size}
 use Rattle.refusals.specs.Said.{Said, said_values}
-use Rattle.reading.specs.Reader.{size_at, read_said, cursor_said}
+use Rattle.reading.specs.Reader.{Read, size_at, read_said, cursor_said}
 use Rattle.reading.specs.Reader.Reading.{HasRecord, said_whole}
-use Rattle.reading.specs.Reader.Answers.{refused_none}
+use Rattle.reading.specs.Reader.Answers.{read_whole, refused_none}
 use Rattle.listing.specs.Entries.{bytes_all}
 use Rattle.reading.specs.Reader.RoundTrip.{bytes_some, size_is}
-use Rattle.theory.specs.Pieces.{Left, left_all, left_room, left_less, left_none, left_long}
+use Rattle.theory.specs.Pieces.{Left, left_all, left_room, left_less, left_none}
 use Rattle.listing.specs.declared.records.Record.{Record}
 use Rattle.reading.specs.declared.reader.Cursor.{Cursor}
-use Rattle.reading.specs.declared.reader.Read.{Read}
-use Rattle.reading.specs.declared.reader.Read.TheVariants.{Whole, Refused}
 use Rattle.refusals.specs.declared.refusals.Refusal.{Refusal}
 use Rattle.printing.specs.Decimal.{decimal}
 use Rattle.printing.specs.Decimal.Laws.{at_most_three}
@@ -87,45 +87,19 @@ module _ {whole : List ℕ} {stop : ℕ} (bytes output : List ℕ) (end i : ℕ)
     last_whole new next n k =
         left_over h new next (rw (line_last bytes i inside last) n) (rw (line_last bytes i inside last) k)
 
--- ---- bytes copied one by one
-
--- none yet
-pub no_bytes : (bytes output : List ℕ) (at : ℕ) → at + length bytes ≤ length output
-    → Left (written output at bytes) (at + length bytes) output (at + 0) bytes
-no_bytes bytes output at room = rw (add-zero at) (left_all output at bytes room)
-
-module _ {whole : List ℕ} {stop : ℕ} (bytes output : List ℕ) (at i : ℕ)
-    (h : Left whole stop output (at + i) (drop i bytes)) where
-  module _ (more : i < length bytes) where
-    byte_parts : drop i bytes ≡ (get_or bytes i 0 ∷ []) ++ drop (i + 1) bytes
-    byte_parts = rw (add-one i) (drop-cons bytes i 0 more)
-
-    pub byte_room : at + i < length output
-    byte_room =
-        let room : at + i + 1 ≤ length output = left_room output (at + i) _ h (get_or bytes i 0 ∷ []) (drop (i + 1) bytes)
-        byte_parts in omega arith
-
-    pub byte_less : Left whole stop (set output (at + i) (get_or bytes i 0)) (at + (i + 1)) (drop (i + 1) bytes)
-    byte_less =
-        left_less output (at + i) _ h (get_or bytes i 0 ∷ []) (drop (i + 1) bytes) byte_parts
-        (set output (at + i) (get_or bytes i 0)) (at + (i + 1)) (written-set output (at + i) (get_or bytes i 0) byte_room)
-        (omega arith)
-
-  pub bytes_whole : length bytes ≤ i → (at + i ≡ stop) × (output ≡ whole)
-  bytes_whole past =
-      let e = left_none output (at + i) _ h (drop_of_length-le bytes past) in (e.1, e.0)
-
 -- ---- the next record of a listing
 
 -- what the reader answers where a record stands: the place behind it, and no refusal
-module _ (listing : List ℕ) (at : ℕ) (has : HasRecord listing at) (q : Read)
-    (reads : read_said q ≡ cursor_said listing at) where
-  pub whole_end : (r : Record) (next : Cursor) → q ≡ Whole r next → next.at ≡ at + size_at listing at
-  whole_end r next e =
+module _ (listing : List ℕ) (at : ℕ) (q : Read) (reads : read_said q ≡ cursor_said listing at) where
+  whole_end : (r : Record) (next : Cursor) → q ≡ Ok (r, next) → HasRecord listing at → next.at ≡ at + size_at listing at
+  whole_end r next e has =
       ap (λ (x : Said). get_or (said_values x) 0 0) (ap read_said (sym e) ∙ reads ∙ said_whole listing at has)
 
-  pub no_refusal : (why : Refusal) → q ≡ Refused why → ⊥
-  no_refusal why e = refused_none listing at why (rw e at reads) has
+  whole_inside : (r : Record) (next : Cursor) → q ≡ Ok (r, next) → at < length listing
+  whole_inside r next e = (read_whole listing at r next (rw e at reads)).inside
+
+  no_refusal : (why : Refusal) → q ≡ Err why → HasRecord listing at → ⊥
+  no_refusal why e has = refused_none listing at why (rw e at reads) has
 
 module _ (listing : List ℕ) (place : ℕ) (r : Record) (rest : List Record)
     (here : drop place listing ≡ bytes_of r ++ bytes_all rest) where
@@ -234,7 +208,7 @@ module _ (listing old : List ℕ) (at : ℕ) where
 
   module _ (output : List ℕ) (end place : ℕ) (w : PrintedTo listing old at output end place) where
     -- the listing is at its end: all lines are written
-    pub reached_all : length listing ≤ place → Printed listing old at output end
+    reached_all : length listing ≤ place → Printed listing old at output end
     unfolding lines_of
     reached_all past =
         record {
@@ -250,13 +224,6 @@ module _ (listing old : List ℕ) (at : ℕ) where
             (ap lines_of (no_records rest (sym g.here ∙ drop_of_length-le listing past)))
 
     module _ (some : Recorded listing) where
-      -- the buffer stays as long
-      pub printed_long : at + 4 * length listing ≤ length old → length output ≡ length old
-      printed_long room =
-          let l = (w.going some.records some.bytes_are).1.left in
-          left_long output end _ l ∙ length-written old at (lines_of some.records)
-          (omega (arith, lines_length some.records, ap length some.bytes_are))
-
       module _ (more : place < length listing) where
         next_of : (records : List Record) → listing ≡ bytes_all records
             → (r : Record) × (after : List Record) × Next listing old at records output end place more r after
@@ -264,17 +231,17 @@ module _ (listing old : List ℕ) (at : ℕ) where
             let g = w.going records e in next_record listing old at records output end place more g.0 g.1
 
         -- a record stands there
-        pub record_here : HasRecord listing place
+        record_here : HasRecord listing place
         record_here =
             let n = next_of some.records some.bytes_are in has_here listing place n.0 n.1 n.2.bytes_here
 
         module _ (next : ℕ) (e : next ≡ place + size_at listing place) where
           -- it ends inside
-          pub next_inside : (place < next) × (next ≤ length listing)
+          next_inside : (place < next) × (next ≤ length listing)
           next_inside = (omega (arith, record_here.known), omega (arith, record_here.within))
 
           -- there is room for its line
-          pub line_room : (0 < length (take (next - place) (drop place listing)))
+          line_room : (0 < length (take (next - place) (drop place listing)))
               × (end + length (line_of (take (next - place) (drop place listing))) ≤ length output)
           line_room =
               let n = next_of some.records some.bytes_are in
@@ -285,7 +252,7 @@ module _ (listing old : List ℕ) (at : ℕ) where
               )
 
           -- and then the next record is reached
-          pub printed_more : (new : List ℕ) (stop : ℕ)
+          printed_more : (new : List ℕ) (stop : ℕ)
               → stop ≡ end + length (line_of (take (next - place) (drop place listing)))
               → new ≡ written output end (line_of (take (next - place) (drop place listing)))
               → PrintedTo listing old at new stop next
@@ -304,6 +271,40 @@ module _ (listing old : List ℕ) (at : ℕ) where
                           stop (rw part at n) (rw part at k);
                     },
                   )
+
+-- the same by what the reader answers at the place
+module _ (listing old : List ℕ) (at : ℕ) (output : List ℕ) (end place : ℕ) (w : PrintedTo listing old at output end place)
+    (some : Recorded listing) (q : Read) (reads : read_said q ≡ cursor_said listing place) where
+  -- it refuses: the listing is at its end
+  pub reached_end : (why : Refusal) → q ≡ Err why → Printed listing old at output end
+  reached_end why e = go (lt_tested place (length listing))
+    where
+      go : {t : Bool} → Tested (place < length listing) t → Printed listing old at output end
+      go (holds more) =
+          absurd (no_refusal listing place q reads why e (record_here listing old at output end place w some more))
+      go (fails n) = reached_all listing old at output end place w (omega arith)
+
+  -- it reads a record, up to the next place
+  module _ (r : Record) (next : Cursor) (e : q ≡ Ok (r, next)) where
+    more : place < length listing
+    more = whole_inside listing place q reads r next e
+
+    next_is_at : next.at ≡ place + size_at listing place
+    next_is_at = whole_end listing place q reads r next e (record_here listing old at output end place w some more)
+
+    pub read_inside : (place < next.at) × (next.at ≤ length listing)
+    read_inside = next_inside listing old at output end place w some more next.at next_is_at
+
+    pub read_room : (0 < length (take (next.at - place) (drop place listing)))
+        × (end + length (line_of (take (next.at - place) (drop place listing))) ≤ length output)
+    read_room = line_room listing old at output end place w some more next.at next_is_at
+
+    pub read_printed : (new : List ℕ) (stop : ℕ)
+        → stop ≡ end + length (line_of (take (next.at - place) (drop place listing)))
+        → new ≡ written output end (line_of (take (next.at - place) (drop place listing)))
+        → PrintedTo listing old at new stop next.at
+    read_printed new stop k n =
+        printed_more listing old at output end place w some more next.at next_is_at new stop k n
 
 -- ---- a refusal
 

@@ -3,7 +3,7 @@
 -- (`read_refused`). Number and values are taken back to the answer, by a function of each: so no two records have the
 -- same bytes.
 -- Assumes nothing.
-use Rattle.std.specs.Prelude.{◌≡◌, refl, Bool, true, false, List, [], ◌∷◌, ℕ, ◌+◌, ◌≤◌, ◌<◌, ltb, length, get_or, take, drop}
+use Rattle.std.specs.Prelude.{◌≡◌, refl, Bool, true, false, List, [], ◌∷◌, ℕ, ◌+◌, ◌≤◌, ◌<◌, ltb, length, get_or, take, drop, Ok, Err}
 use Rattle.std.proofs.Common.{sym, ◌∙◌, ap, div-add-mod', arith, length-drop, length-take-le}
 use Rattle.theory.specs.Test.{Tested, holds, fails}
 use Rattle.theory.specs.Test.Laws.{lt_tested, says_true}
@@ -14,14 +14,13 @@ use Rattle.refusals.specs.Said.Laws.{not_accepted, check_passed}
 use Rattle.refusals.specs.declared.refusals.Refusal.{Refusal}
 use Rattle.refusals.specs.declared.refusals.Refusal.TheVariants.{ListingForm, CursorSpent}
 use Rattle.listing.specs.Records.{bytes_of, record_from_bytes}
-use Rattle.reading.specs.Reader.{read_said, size_at, whole_at, whole_values, cursor_said}
+use Rattle.reading.specs.Reader.{Read, read_said, size_at, whole_at, whole_values, cursor_said}
 use Rattle.reading.specs.Reader.Reading.{HasRecord, whole_tested, has_inside, said_whole, reads_spent, reads_form}
+use Rattle.listing.specs.declared.records.Side.TheVariants.{Pattern, Window}
 use Rattle.listing.specs.declared.records.Record.{Record}
-use Rattle.listing.specs.declared.records.Record.TheVariants.{Found, Pair, AlikeInPattern, AlikeInWindow}
+use Rattle.listing.specs.declared.records.Record.TheVariants.{Found, Pair, Mismatch}
 use Rattle.listing.specs.declared.records.Record.TheVariants.{Closing}
 use Rattle.reading.specs.declared.reader.Cursor.{Cursor}
-use Rattle.reading.specs.declared.reader.Read.{Read}
-use Rattle.reading.specs.declared.reader.Read.TheVariants.{Whole, Refused}
 
 -- ---- a record by its bytes
 
@@ -30,8 +29,8 @@ pub record_of : (r : Record) → record_from_bytes (bytes_of r) ≡ r
 unfolding record_from_bytes
 record_of (Found row column) = refl
 record_of (Pair pattern text) = refl
-record_of (AlikeInPattern body) = refl
-record_of (AlikeInWindow body) = refl
+record_of (Mismatch Pattern body) = refl
+record_of (Mismatch Window body) = refl
 record_of (Closing found refused) = rw (div-add-mod' found 256, div-add-mod' refused 256)
 
 -- no two records have the same bytes
@@ -42,8 +41,8 @@ bytes_injective r s e = sym (record_of r) ∙ ap record_from_bytes e ∙ record_
 
 -- by its number and values
 read_by : Said → Read
-read_by (accepts v) = Whole (record_from_bytes (drop 1 v)) (record { at = get_or v 0 0 })
-read_by (refuses n v) = Refused (refusal_by n v)
+read_by (accepts v) = Ok (record_from_bytes (drop 1 v), record { at = get_or v 0 0 })
+read_by (refuses n v) = Err (refusal_by n v)
 
 -- the reader's refusals return the place
 cursor_place : (listing : List ℕ) (at : ℕ) (why : Refusal) → refusal_said why ≡ cursor_said listing at
@@ -60,9 +59,9 @@ cursor_place listing at why e = go (ltb at (length listing)) (whole_at listing a
 read_by_lem : (listing : List ℕ) (at : ℕ) (q : Read) → read_said q ≡ cursor_said listing at
     → q ≡ read_by (cursor_said listing at)
 unfolding read_by
-read_by_lem listing at (Whole r next) h = sym (ap read_by (sym h) ∙ ap (λ (s : Record). Whole s next) (record_of r))
-read_by_lem listing at (Refused why) h =
-    sym (ap read_by (sym h) ∙ ap Refused (refusal_by_lem why at (cursor_place listing at why h)))
+read_by_lem listing at (Ok (r, next)) h = sym (ap read_by (sym h) ∙ ap (λ (s : Record). Ok (s, next)) (record_of r))
+read_by_lem listing at (Err why) h =
+    sym (ap read_by (sym h) ∙ ap Err (refusal_by_lem why at (cursor_place listing at why h)))
 
 -- what reading at a place answers is determined
 pub reads_is : (listing : List ℕ) (at : ℕ) (p q : Read) → read_said p ≡ cursor_said listing at
@@ -93,7 +92,7 @@ module _ (listing : List ℕ) (at : ℕ) where
       says_true (whole_tested listing at)
       (check_passed (whole_at listing at) 6 (at ∷ []) (accepts (whole_values listing at)) values a.1).0
 
-  pub read_whole : (r : Record) (next : Cursor) → read_said (Whole r next) ≡ cursor_said listing at
+  pub read_whole : (r : Record) (next : Cursor) → read_said (Ok (r, next)) ≡ cursor_said listing at
       → WholeAt listing at r next
   read_whole r next h =
       let has : HasRecord listing at = has_record (next.at ∷ bytes_of r) (sym h) in
@@ -113,20 +112,20 @@ module _ (listing : List ℕ) (at : ℕ) where
       }
 
   refused_by : {b c : Bool} (why : Refusal) → Tested (at < length listing) b → Tested (HasRecord listing at) c
-      → read_said (Refused why) ≡ cursor_said listing at → RefusedAt listing at why
+      → read_said (Err why) ≡ cursor_said listing at → RefusedAt listing at why
   refused_by why (holds h) (holds r) q =
       absurd (not_accepted (number_of why) (values_of why) (whole_values listing at) (q ∙ said_whole listing at r))
   refused_by why (holds h) (fails n) q =
-      let same : Refused why ≡ Refused (ListingForm at) = reads_is listing at _ _ q (reads_form listing at h n) in
+      let same : Err why ≡ Err (ListingForm at) = reads_is listing at _ _ q (reads_form listing at h n) in
       let why_is : why ≡ ListingForm at = cc in
       rw why_is (form h n)
   refused_by why (fails n) t q =
       let past : length listing ≤ at = omega arith in
-      let same : Refused why ≡ Refused (CursorSpent at) = reads_is listing at _ _ q (reads_spent listing at past) in
+      let same : Err why ≡ Err (CursorSpent at) = reads_is listing at _ _ q (reads_spent listing at past) in
       let why_is : why ≡ CursorSpent at = cc in
       rw why_is (spent past)
 
-  pub read_refused : (why : Refusal) → read_said (Refused why) ≡ cursor_said listing at → RefusedAt listing at why
+  pub read_refused : (why : Refusal) → read_said (Err why) ≡ cursor_said listing at → RefusedAt listing at why
   read_refused why q = refused_by why (lt_tested at (length listing)) (whole_tested listing at) q
 
   -- whatever the refusal, no whole record stands there
@@ -134,5 +133,5 @@ module _ (listing : List ℕ) (at : ℕ) where
   refused_none_by why (spent h) r = let inside = has_inside listing at r in omega arith
   refused_none_by why (form h n) r = n r
 
-  pub refused_none : (why : Refusal) → read_said (Refused why) ≡ cursor_said listing at → HasRecord listing at → ⊥
+  pub refused_none : (why : Refusal) → read_said (Err why) ≡ cursor_said listing at → HasRecord listing at → ⊥
   refused_none why q = refused_none_by why (read_refused why q)

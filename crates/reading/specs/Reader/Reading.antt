@@ -2,17 +2,19 @@
 -- kind and the bytes behind it, as many as the kind says; so a function that takes these bytes one by one has read the
 -- record.
 -- Assumes nothing.
-use Rattle.std.specs.Prelude.{◌≡◌, refl, List, [], ◌∷◌, ℕ, zero, suc, ◌+◌, ◌-◌, ◌*◌, ◌/◌, ◌%◌, ◌≤◌, ◌<◌, get_or, take, drop}
-use Rattle.std.proofs.Common.{sym, ◌∙◌, ap, drop-cons, ne_eqb}
+use Rattle.std.specs.Prelude.{◌≡◌, refl, List, [], ◌∷◌, ℕ, zero, suc, ◌+◌, ◌-◌, ◌*◌, ◌/◌, ◌%◌, ◌≤◌, ◌<◌, get_or, take, drop, Err}
+use Rattle.std.proofs.Common.{sym, ◌∙◌, ap, drop-cons}
 use native.Mathlib.Omega.{arith}
 use Rattle.std.proofs.Math.ListN.{length}
 use Rattle.theory.specs.Test.{Tested}
 use Rattle.theory.specs.Test.Laws.{tested_iff, lt_tested, le_tested, both_tested, is_true, is_false}
 use Rattle.refusals.specs.Said.{accepts, refuses}
 use Rattle.refusals.specs.declared.refusals.Refusal.TheVariants.{ListingForm, CursorSpent}
-use Rattle.listing.specs.Records.{kind_size}
+use Rattle.listing.specs.Records.{kind_byte, kind_size, size_of_kind}
+use Rattle.listing.specs.Records.Kinds.{size_known}
+use Rattle.listing.specs.declared.records.Kind.{Kind}
+use Rattle.listing.specs.declared.records.Kind.TheVariants.{Found, Pair, Mismatch, Closing}
 use Rattle.reading.specs.Reader.{read_said, size_at, whole_at, whole_values, cursor_said, KindAt, bytes_from}
-use Rattle.reading.specs.declared.reader.Read.TheVariants.{Refused}
 
 -- ---- what a place says
 
@@ -48,23 +50,23 @@ module _ (listing : List ℕ) (at : ℕ) where
 
   -- ---- the two refusals
 
-  pub reads_spent : length listing ≤ at → read_said (Refused (CursorSpent at)) ≡ cursor_said listing at
+  pub reads_spent : length listing ≤ at → read_said (Err (CursorSpent at)) ≡ cursor_said listing at
   reads_spent h = sym (said_spent h)
 
   pub reads_form : at < length listing → (HasRecord listing at → ⊥)
-      → read_said (Refused (ListingForm at)) ≡ cursor_said listing at
+      → read_said (Err (ListingForm at)) ≡ cursor_said listing at
   reads_form h n = sym (said_form h n)
 
   -- a byte of no kind
   pub reads_unknown : (kind : ℕ) → KindAt listing at kind → kind_size kind ≡ 0
-      → read_said (Refused (ListingForm at)) ≡ cursor_said listing at
+      → read_said (Err (ListingForm at)) ≡ cursor_said listing at
   reads_unknown kind k e =
       let none : size_at listing at ≡ 0 = ap kind_size k.kind_is ∙ e in
       reads_form k.inside (λ r. omega (arith, r.known))
 
   -- a record cut by the listing's end
   pub reads_cut : (kind size : ℕ) → KindAt listing at kind → kind_size kind ≡ size → length listing - at < size
-      → read_said (Refused (ListingForm at)) ≡ cursor_said listing at
+      → read_said (Err (ListingForm at)) ≡ cursor_said listing at
   reads_cut kind size k e h =
       let long : size_at listing at ≡ size = ap kind_size k.kind_is ∙ e in
       let inside : at < length listing = k.inside in
@@ -112,6 +114,21 @@ reads_whole l at kind size bytes k e h b =
 
 -- ---- the kinds
 
+-- where a kind's byte stands: cut by the listing's end
+pub kind_cut : (l : List ℕ) (at : ℕ) (kind : Kind) → KindAt l at (kind_byte kind) → length l - at < size_of_kind kind
+    → read_said (Err (ListingForm at)) ≡ cursor_said l at
+kind_cut l at kind k h = reads_cut l at (kind_byte kind) (size_of_kind kind) k (size_known kind) h
+
+-- or whole, by its bytes
+pub kind_whole : (l : List ℕ) (at : ℕ) (kind : Kind) (bytes : List ℕ) → KindAt l at (kind_byte kind)
+    → size_of_kind kind ≤ length l - at → bytes ≡ kind_byte kind ∷ bytes_from l at 1 (size_of_kind kind - 1)
+    → accepts ((at + size_of_kind kind) ∷ bytes) ≡ cursor_said l at
+kind_whole l at Found bytes k h e = reads_whole l at 1 2 bytes k (size_known Found) h e
+kind_whole l at Pair bytes k h e = reads_whole l at 2 2 bytes k (size_known Pair) h e
+kind_whole l at (Mismatch side) bytes k h e =
+    reads_whole l at (kind_byte (Mismatch side)) 6 bytes k (size_known (Mismatch side)) h e
+kind_whole l at Closing bytes k h e = reads_whole l at 5 4 bytes k (size_known Closing) h e
+
 pub size_found : kind_size 1 ≡ 3
 unfolding kind_size
 size_found = refl
@@ -131,11 +148,6 @@ size_alike_in_window = refl
 pub size_closing : kind_size 5 ≡ 5
 unfolding kind_size
 size_closing = refl
-
-pub size_unknown : (kind : ℕ) → (kind ≡ 1 → ⊥) → (kind ≡ 2 → ⊥) → (kind ≡ 3 → ⊥) → (kind ≡ 4 → ⊥) → (kind ≡ 5 → ⊥)
-    → kind_size kind ≡ 0
-unfolding kind_size
-size_unknown kind a b c d e = rw (ne_eqb kind 1 a, ne_eqb kind 2 b, ne_eqb kind 3 c, ne_eqb kind 4 d, ne_eqb kind 5 e)
 
 -- ---- two bytes of a number
 

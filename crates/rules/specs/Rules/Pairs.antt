@@ -19,8 +19,8 @@ use Rattle.listing.specs.Entries.{bytes_all, pairs_of}
 use Rattle.listing.specs.Entries.Laws.{bytes_none, bytes_cons, pairs_none, pairs_cons, pairs_ext}
 use Rattle.listing.specs.declared.records.Record.TheVariants.{Pair}
 use Rattle.claims.specs.Claims.{or_stop, byte_at, stands, has_image_test, right_pair, pairs_from}
-use Rattle.claims.specs.declared.walks.Walk.{Walk}
-use Rattle.claims.specs.declared.walks.Walk.TheVariants.{Goes}
+use Rattle.claims.specs.Claims.{Walk}
+use Rattle.std.specs.Prelude.{Ok}
 use Rattle.rules.specs.Check.{place_reached}
 use Rattle.claims.specs.Walks.{goes_not_stops}
 use Rattle.pairs.specs.Pairs.{has_image_tested}
@@ -31,12 +31,12 @@ use Rattle.rules.specs.Rules.Bytes.{holds_stands, stands_holds}
 -- ---- a step of the walk
 
 -- the walk goes on exactly past a test that passes
-pub goes_on : (ok : Bool) (why : Refusal) (after : Walk) (end : ℕ) → or_stop ok why after ≡ Goes end
-    → (ok ≡ true) × (after ≡ Goes end)
+pub goes_on : (ok : Bool) (why : Refusal) (after : Walk) (end : ℕ) → or_stop ok why after ≡ Ok end
+    → (ok ≡ true) × (after ≡ Ok end)
 goes_on true why after end e = (refl, e)
 goes_on false why after end e = absurd (goes_not_stops end why (sym e))
 
-pub goes_to : (a b : ℕ) → Goes a ≡ Goes b → a ≡ b
+pub goes_to : (a b : ℕ) → ◌≡◌ {A = Walk} (Ok a) (Ok b) → a ≡ b
 goes_to a b e = ap place_reached e
 
 -- ---- a symbol in a list
@@ -165,7 +165,7 @@ module _ (m w : ℕ → ℕ) (n : ℕ) (listing : List ℕ) where
 
   -- where the walk passes, the pairs are right
   pub pairs_sound : (symbols given : List ℕ) (at end : ℕ) → Rising symbols
-      → pairs_from m w n listing symbols given at ≡ Goes end
+      → pairs_from m w n listing symbols given at ≡ Ok end
       → (end ≡ at + 3 * length symbols) × PairsRight symbols given at (image_in listing symbols at)
   unfolding pairs_from
   pairs_sound [] given at end rising e = (
@@ -186,9 +186,9 @@ module _ (m w : ℕ → ℕ) (n : ℕ) (listing : List ℕ) where
   -- and where they are right, whatever the images, it passes
   pub pairs_complete : (symbols given : List ℕ) (at : ℕ) (image : ℕ → ℕ) → Rising symbols
       → PairsRight symbols given at image
-      → pairs_from m w n listing symbols given at ≡ Goes (at + 3 * length symbols)
+      → pairs_from m w n listing symbols given at ≡ Ok (at + 3 * length symbols)
   unfolding pairs_from
-  pairs_complete [] given at image rising r = ap Goes (omega arith)
+  pairs_complete [] given at image rising r = ap Ok (omega arith)
   pairs_complete (a ∷ s) given at image rising r =
       let e = pair_bytes_lem image a s in
       let bytes : Holds listing at (bytes_of (Pair a (image a)) ++ bytes_all (pairs_of image s)) = rw e at r.there in
@@ -207,7 +207,7 @@ module _ (m w : ℕ → ℕ) (n : ℕ) (listing : List ℕ) where
       ) in
       let ih = pairs_complete s (byte_at listing at 2 ∷ given) (at + 3) image (rising_tail a s rising)
       (tail_right y (holds_second listing at (bytes_of (Pair a (image a))) (bytes_all (pairs_of image s)) bytes)) in
-      rw (st, rp) (ih ∙ ap Goes (omega arith))
+      rw (st, rp) (ih ∙ ap Ok (omega arith))
     where
       in_more : (b : ℕ) → contains s b ≡ true → contains (a ∷ s) b ≡ true
       in_more b c = in_tail a s b (λ e. rising_apart a s rising b c e) ∙ c

@@ -1,9 +1,7 @@
 -- `carries::carry_row` meets its contract: the row is carried by its own cells (`rows_more`), whose symbols
 -- are the pattern's, so that their images lie in the text.
 -- Assumes nothing.
-use Prim.Native.Nat.{◌+◌, ◌≤◌}
-use native.Mathlib.Omega.{arith}
-use lib.ListN.{length}
+use Rattle.std.proofs.Common.{◌+◌, ◌≤◌, length, arith}
 use Rattle.matching.specs.Compare.Rows.{part_is, row_fits, cells_fit, same_length}
 use Rattle.matching.specs.Compare.Positions.{positions_small}
 use Rattle.inheriting.specs.Carries.{cells_inside, rows_more}
@@ -26,16 +24,16 @@ pub slice_bounds-row-end : goal.slice_bounds-row-end
 slice_bounds-row-end c = omega (arith, row_in (goal.at.slice_bounds-row-end c).Start)
 
 pub overflow_add-cells : goal.overflow_add-cells
-overflow_add-cells c = omega (arith, cells_in (goal.at.overflow_add-cells c).Start, c.requires.1, positions_small _ _ c.requires.0)
+overflow_add-cells c =
+    omega (arith, cells_in (goal.at.overflow_add-cells c).Start, c.requires.1, positions_small _ _ c.requires.0)
 
 pub slice_bounds-cells-end : goal.slice_bounds-cells-end
 slice_bounds-cells-end c = omega (arith, cells_in (goal.at.slice_bounds-cells-end c).Start)
 
 pub row_carries-requires : goal.row_carries-requires
 row_carries-requires c =
-    let a = c.args in
-    let row_is = part_is a.text.now a.start a.v.width in
-    let cells_are = part_is a.pattern.now a.from a.v.width in (
+    let row_is = part_is c.args.text.now c.args.start c.args.v.width in
+    let cells_are = part_is c.args.pattern.now c.args.from c.args.v.width in (
       cells_inside _ _ _ _ _ c.requires.0 c.requires.1 _ _ _ c.requires.4 c.requires.5 _ _ row_is cells_are c.requires.2
           c.requires.3,
       same_length _ _ _ _ c.requires.4 c.requires.5.place _ _ c.requires.0 c.requires.1 _ _ row_is cells_are,
@@ -43,7 +41,6 @@ row_carries-requires c =
 
 pub returns : goal.returns
 returns c =
-    let a = c.args in
     λ t. rows_more _ _ _ _ _ c.requires.0 c.requires.1 _ _ _ c.requires.4 c.requires.5 _ _
-    (part_is a.text.now a.start a.v.width) (part_is a.pattern.now a.from a.v.width)
+    (part_is c.args.text.now c.args.start c.args.v.width) (part_is c.args.pattern.now c.args.from c.args.v.width)
     (c.row_carries.ensures t)

@@ -1,6 +1,5 @@
 -- What holds each time a loop of `carries::row_carries` begins a round, and what falls; `Answers.antt` says why.
-use Prim.Native.Nat.{◌-◌, ◌≤◌}
-use lib.ListN.{length}
+use Rattle.std.proofs.Common.{◌-◌, ◌≤◌, length}
 use Rattle.inheriting.specs.Carries.{RowCarried}
 use Rattle.carrying.proofs.carries.row_carries.Given as goal
 

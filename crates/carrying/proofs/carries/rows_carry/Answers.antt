@@ -1,11 +1,7 @@
 -- `carries::rows_carry` meets its contract. The invariant: i rows of the window are carried, those that follow the
 -- pattern to begin with; start and from are where the next row of the window and of the pattern begin.
 -- Assumes nothing.
-use mathlib.Core.Path.{refl}
-use mathlib.Core.Bool.{false≢true}
-use Prim.Native.Nat.{◌+◌, ◌*◌, ◌≤◌}
-use native.Mathlib.Nat.{mul-le-mul_right}
-use native.Mathlib.Omega.{arith}
+use Rattle.std.proofs.Common.{◌+◌, ◌*◌, ◌≤◌, refl, arith, mul-le-mul_right}
 use Rattle.matching.specs.Compare.Rows.{row_fits, cells_fit}
 use Rattle.matching.specs.Compare.Positions.{positions_small, rows_small, start_small}
 use Rattle.inheriting.specs.Carries.{rows_known, rows_all}
@@ -62,33 +58,21 @@ overflow_mul-from c =
 
 pub loop-i-init : goal.loop-i-init
 loop-i-init c =
-    let a = c.args in
-    let fit = rows_above a.v a.known c.requires.3 in
-    rows_known a.text.now a.v a.pattern.now _ a.offsets.now a.known _ c.requires.3 refl
-    (follows_carried a.text.now a.v a.pattern.now a.offsets.now (a.known * a.v.width) c.requires.2
-    (omega (arith, fit, c.requires.1)) c.requires.4)
+    let v = c.args.v in
+    let known = c.args.known in
+    rows_known c.args.text.now v c.args.pattern.now _ c.args.offsets.now known _ c.requires.3 refl
+    (follows_carried c.args.text.now v c.args.pattern.now c.args.offsets.now (known * v.width) c.requires.2
+    (omega (arith, rows_above v known c.requires.3, c.requires.1)) c.requires.4)
 
 pub carry_row-requires : goal.carry_row-requires
 carry_row-requires c =
     (c.requires.0, c.requires.1, refl, c.requires.2, c.loop-i-test.true, c.loop-i.invariant)
-
-pub returns-then-not-carry_row : goal.returns-then-not-carry_row
-returns-then-not-carry_row c = λ e. absurd (false≢true e)
 
 pub overflow_add-start-in-loop-i : goal.overflow_add-start-in-loop-i
 overflow_add-start-in-loop-i c = omega (arith, row_small (goal.at.overflow_add-start-in-loop-i c).In-loop-i)
 
 pub overflow_add-from : goal.overflow_add-from
 overflow_add-from c = omega (arith, cells_few (goal.at.overflow_add-from c).In-loop-i)
-
-pub overflow_add-i : goal.overflow_add-i
-overflow_add-i c = let t = c.loop-i-test.true in omega arith
-
-pub loop-i-smaller : goal.loop-i-smaller
-loop-i-smaller c = let t = c.loop-i-test.true in omega arith
-
-pub loop-i-preserved : goal.loop-i-preserved
-loop-i-preserved c = c.carry_row.ensures (c.if-not-carry_row.false)
 
 pub returns : goal.returns
 returns c =

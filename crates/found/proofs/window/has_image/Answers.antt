@@ -5,11 +5,9 @@ use Rattle.pairs.specs.Pairs.{image_carried, image_inside}
 use Rattle.found.proofs.window.has_image.Goals as goal
 
 pub image_behind-requires : goal.image_behind-requires
-image_behind-requires c =
-    (c.requires.0.leads.long, image_inside _ c.args.v c.args.pattern.now _ _ _ c.requires.0 _ c.requires.1)
+image_behind-requires c = image_inside _ c.args.v c.args.pattern.now _ _ _ c.requires.0 _ c.requires.1
 
 pub returns-then-carried : goal.returns-then-carried
 returns-then-carried c =
-    let a = c.args in
-    image_carried a.text.now a.v a.pattern.now _ a.corner a.offsets.now a.a a.b _ c.requires.0
-    c.if-carried.true c.requires.1 c.image_behind.ensures
+    image_carried c.args.text.now c.args.v c.args.pattern.now _ c.args.corner c.args.offsets.now c.args.a c.args.b _
+    c.requires.0 c.if-carried.true c.requires.1 c.image_behind.ensures

@@ -1,76 +1,53 @@
 -- `entries::check_entry` meets its contract: the record that stands first decides which way the walk goes
--- (`Entries.antt` of rules), and marks that are untouched stay below a later base.
+-- (`Entries.antt` of rules).
 -- Assumes nothing.
-use mathlib.Core.Path.{◌≡◌, sym, ◌∙◌, ap, subst}
-use Rattle.theory.specs.Older.Laws.{older_next}
+use Rattle.std.proofs.Common.{◌≡◌, ⊎_elim, Ok, sym, ◌∙◌, ap, subst}
 use Rattle.reading.specs.Reader.{read_said, cursor_said}
 use Rattle.listing.specs.declared.records.Record.{Record}
-use Rattle.reading.specs.declared.reader.Cursor.{Cursor}
-use Rattle.reading.specs.declared.reader.Read.TheVariants.{Whole}
-use Rattle.rules.specs.Entries.{pattern_body, window_body, entry_none, entry_pair, entry_closing, entry_pattern}
-use Rattle.rules.specs.Entries.{entry_window, entry_not_due, found_entry_passes}
+use Rattle.rules.specs.Entries.{mismatch_read, entry_none, entry_pair, entry_closing, entry_mismatch, entry_not_due}
+use Rattle.rules.specs.Entries.{found_entry_passes}
 use Rattle.judging.proofs.entries.check_entry.Goals as goal
-use Rattle.judging.proofs.entries.check_entry.Goals.{In-Whole}
+use Rattle.judging.proofs.entries.check_entry.Goals.{In-Ok}
 
 -- the reader answers with a whole record, and with the place after it
-abbrev next : In-Whole → Cursor
-next c = c.in-Whole.next
-
-whole : (c : In-Whole) (r : Record) → c.in-Whole.item ≡ r → let a = c.args in read_said (Whole r (next c)) ≡ cursor_said a.listing.now a.at
+whole : (c : In-Ok) (r : Record) → c.in-Ok.item ≡ r
+    → read_said (Ok (r, c.in-Ok.next)) ≡ cursor_said c.args.listing.now c.args.at
 whole c r e =
-    let a = c.args in
-    subst (λ (s : Record). read_said (Whole s (next c)) ≡ cursor_said a.listing.now a.at) e
-    (sym (ap read_said c.in-Whole.is) ∙ c.read_found_first.ensures)
+    subst (λ (s : Record). read_said (Ok (s, c.in-Ok.next)) ≡ cursor_said c.args.listing.now c.args.at) e
+    (sym (ap read_said c.in-Ok.is) ∙ c.read_first.ensures)
 
-pub returns-in_default : goal.returns-in_default
-returns-in_default c =
-    let a = c.args in record {
-      value = entry_none a.text.now a.pattern.now a.v a.listing.now a.at c.in_default.field-0
-          (sym (ap read_said c.in_default.is) ∙ c.read_found_first.ensures);
-      older = older_next a.base a.given.now c.requires.3;
-      check_tables = c.requires.4;
-    }
+pub returns-in_default-clause-answer : goal.returns-in_default-clause-answer
+returns-in_default-clause-answer c =
+    entry_none c.args.text.now c.args.pattern.now c.args.v c.args.listing.now c.args.at c.in_default.field-0
+    (sym (ap read_said c.in_default.is) ∙ c.read_first.ensures)
 
-pub returns-then-not-is_due : goal.returns-then-not-is_due
-returns-then-not-is_due c =
-    let a = c.args in record {
-      value = entry_not_due a.text.now a.pattern.now a.v a.listing.now a.at _ _ _ (whole (goal.at.returns-then-not-is_due c).In-Whole _ c.in-Found.is)
-          (sym c.is_due.ensures ∙ c.if-not-is_due.true);
-      older = older_next a.base a.given.now c.requires.3;
-      check_tables = c.requires.4;
-    }
+pub returns-then-not-is_due-clause-answer : goal.returns-then-not-is_due-clause-answer
+returns-then-not-is_due-clause-answer c =
+    entry_not_due c.args.text.now c.args.pattern.now c.args.v c.args.listing.now c.args.at _ _ _
+    (whole (goal.at.returns-then-not-is_due-clause-answer c).In-Ok _ c.in-Found.is) (sym c.is_due.ensures ∙ c.if-not-is_due.true)
 
 pub refused_window-requires : goal.refused_window-requires
-refused_window-requires c =
-    let a = c.args in
-    (c.requires.0, c.requires.1, pattern_body c.in-AlikeInPattern.body a.listing.now a.at _ (whole (goal.at.refused_window-requires c).In-Whole _ c.in-AlikeInPattern.is))
+refused_window-requires c = (
+  c.requires.0,
+  c.requires.1,
+  mismatch_read c.in-Mismatch.alike c.in-Mismatch.body c.args.listing.now c.args.at _
+      (whole (goal.at.refused_window-requires c).In-Ok _ c.in-Mismatch.is),
+)
 
-pub refused_window-requires-in-AlikeInWindow : goal.refused_window-requires-in-AlikeInWindow
-refused_window-requires-in-AlikeInWindow c =
-    let a = c.args in
-    (c.requires.0, c.requires.1, window_body c.in-AlikeInWindow.body a.listing.now a.at _ (whole (goal.at.refused_window-requires-in-AlikeInWindow c).In-Whole _ c.in-AlikeInWindow.is))
+pub returns-else-not-is_due-clause-answer : goal.returns-else-not-is_due-clause-answer
+returns-else-not-is_due-clause-answer c =
+    found_entry_passes c.args.text.now c.args.pattern.now c.args.v c.args.listing.now c.args.at _ _ _
+    (whole (goal.at.returns-else-not-is_due-clause-answer c).In-Ok _ c.in-Found.is) (sym c.is_due.ensures ∙ c.if-not-is_due.false) _
+    c.found_pairs.ensures.answer
 
-pub returns-else-not-is_due : goal.returns-else-not-is_due
-returns-else-not-is_due c =
-    let a = c.args in record {
-      value = found_entry_passes a.text.now a.pattern.now a.v a.listing.now a.at _ _ _ (whole (goal.at.returns-else-not-is_due c).In-Whole _ c.in-Found.is)
-          (sym c.is_due.ensures ∙ c.if-not-is_due.false) _ c.found_pairs.ensures.value;
-      older = c.found_pairs.ensures.older;
-      check_tables = c.found_pairs.ensures.check_tables;
-    }
+pub returns-in-Mismatch-clause-answer : goal.returns-in-Mismatch-clause-answer
+returns-in-Mismatch-clause-answer c =
+    entry_mismatch c.args.text.now c.args.pattern.now c.args.v c.args.listing.now c.args.at c.in-Mismatch.alike
+    c.in-Mismatch.body _ (whole (goal.at.returns-in-Mismatch-clause-answer c).In-Ok _ c.in-Mismatch.is) _ c.refused_window.ensures
 
-pub returns-in-AlikeInPattern : goal.returns-in-AlikeInPattern
-returns-in-AlikeInPattern c =
-    let a = c.args in record { value = entry_pattern a.text.now a.pattern.now a.v a.listing.now a.at _ _ (whole (goal.at.returns-in-AlikeInPattern c).In-Whole _ c.in-AlikeInPattern.is) _ c.refused_window.ensures; older = older_next a.base a.given.now c.requires.3; check_tables = c.requires.4 }
-
-pub returns-in-AlikeInWindow : goal.returns-in-AlikeInWindow
-returns-in-AlikeInWindow c =
-    let a = c.args in record { value = entry_window a.text.now a.pattern.now a.v a.listing.now a.at _ _ (whole (goal.at.returns-in-AlikeInWindow c).In-Whole _ c.in-AlikeInWindow.is) _ c.refused_window-in-AlikeInWindow.ensures; older = older_next a.base a.given.now c.requires.3; check_tables = c.requires.4 }
-
-pub returns-in-Pair : goal.returns-in-Pair
-returns-in-Pair c =
-    let a = c.args in record { value = entry_pair a.text.now a.pattern.now a.v a.listing.now a.at _ _ _ (whole (goal.at.returns-in-Pair c).In-Whole _ c.in-Pair.is); older = older_next a.base a.given.now c.requires.3; check_tables = c.requires.4 }
-
-pub returns-in-Closing : goal.returns-in-Closing
-returns-in-Closing c =
-    let a = c.args in record { value = entry_closing a.text.now a.pattern.now a.v a.listing.now a.at _ _ _ (whole (goal.at.returns-in-Closing c).In-Whole _ c.in-Closing.is); older = older_next a.base a.given.now c.requires.3; check_tables = c.requires.4 }
+pub returns-in-Pair-clause-answer : goal.returns-in-Pair-clause-answer
+returns-in-Pair-clause-answer c =
+    ⊎_elim (λ h. entry_pair c.args.text.now c.args.pattern.now c.args.v c.args.listing.now c.args.at h.0 h.1 _
+    (whole (goal.at.returns-in-Pair-clause-answer c).In-Ok _ h.2)) (λ h. entry_closing c.args.text.now
+    c.args.pattern.now c.args.v c.args.listing.now c.args.at h.0 h.1 _
+    (whole (goal.at.returns-in-Pair-clause-answer c).In-Ok _ h.2)) c.in-Pair.is

@@ -1,59 +1,38 @@
--- `lines::write_lines` meets its contract. The invariant: the lines of the records before the place are written, and
--- the place is where a record begins or the listing ends (`PrintedTo`).
+-- `lines::write_lines` meets its contract. The invariant: the lines of the records before the cursor are written, and
+-- the cursor is where a record begins or the listing ends (`PrintedTo`).
 -- Assumes nothing.
-use native.Mathlib.Omega.{arith}
-use Prim.Native.Nat.{◌<◌, ◌≤◌}
-use lib.ListN.{length}
-use Rattle.printing.specs.Lines.Writing.{printed_none, reached_all, printed_long, record_here}
-use Rattle.printing.specs.Lines.Writing.{next_inside, line_room, printed_more}
+use Rattle.std.proofs.Common.{◌<◌, ◌≤◌, length, arith}
+use Rattle.printing.specs.Lines.Writing.{printed_none, reached_end, read_inside, read_room, read_printed}
 use Rattle.printing.proofs.lines.write_lines.Goals as goal
-use Rattle.printing.proofs.lines.write_lines.Goals.{After-write_line-arg-1}
+use Rattle.printing.proofs.lines.write_lines.Goals.{In-Ok}
 
--- the record at the place ends inside the listing
-inside : (c : After-write_line-arg-1) → let l = c.args.listing.now in
-    (c.loop-place.place < c.record_end-next.result) × (c.record_end-next.result ≤ length l)
-inside c =
-    let i = c.loop-place in
-    next_inside c.args.listing.now c.args.output.now c.args.at i.output i.end i.place i.invariant c.requires.0 c.loop-place-test.true
-    c.record_end-next.result c.record_end-next.ensures
+-- the record ends behind the cursor, inside the listing
+inside : (c : In-Ok) → (c.loop-next.cursor.at < c.in-Ok.next.at) × (c.in-Ok.next.at ≤ length c.args.listing.now)
+inside c = read_inside _ _ _ _ _ _ c.loop-next.invariant c.requires.0 _ c.read.ensures _ _ c.in-Ok.is
 
-pub loop-place-init : goal.loop-place-init
-loop-place-init c = printed_none _ _ _ c.requires.1
-
-pub record_end-next-requires : goal.record_end-next-requires
-record_end-next-requires c =
-    let i = c.loop-place in
-    record_here c.args.listing.now c.args.output.now c.args.at i.output i.end i.place i.invariant c.requires.0 c.loop-place-test.true
+pub loop-next-init : goal.loop-next-init
+loop-next-init c = printed_none _ _ _ c.requires.1
 
 pub slice_bounds-write_line-count : goal.slice_bounds-write_line-count
-slice_bounds-write_line-count c = omega (arith, (inside c).0)
+slice_bounds-write_line-count c = omega (arith, (inside (goal.at.slice_bounds-write_line-count c).In-Ok).0)
 
 pub slice_bounds-write_line-start : goal.slice_bounds-write_line-start
-slice_bounds-write_line-start c = omega (arith, (inside c).0)
+slice_bounds-write_line-start c = omega (arith, (inside (goal.at.slice_bounds-write_line-start c).In-Ok).0)
 
 pub slice_bounds-write_line-end : goal.slice_bounds-write_line-end
-slice_bounds-write_line-end c = (inside c).1
+slice_bounds-write_line-end c = (inside (goal.at.slice_bounds-write_line-end c).In-Ok).1
 
 pub write_line-end-requires : goal.write_line-end-requires
 write_line-end-requires c =
-    let i = c.loop-place in
-    line_room c.args.listing.now c.args.output.now c.args.at i.output i.end i.place i.invariant c.requires.0 c.loop-place-test.true
-    c.record_end-next.result c.record_end-next.ensures
+    read_room _ _ _ _ _ _ c.loop-next.invariant c.requires.0 _ c.read.ensures _ _ c.in-Ok.is
 
-pub loop-place-smaller : goal.loop-place-smaller
-loop-place-smaller c = let e = inside (goal.at.loop-place-smaller c).After-write_line-arg-1 in omega (arith, e.0, e.1)
+pub loop-next-smaller : goal.loop-next-smaller
+loop-next-smaller c = let e = inside (goal.at.loop-next-smaller c).In-Ok in omega (arith, e.0, e.1)
 
-pub loop-place-preserved : goal.loop-place-preserved
-loop-place-preserved c =
-    let i = c.loop-place in
-    printed_more c.args.listing.now c.args.output.now c.args.at i.output i.end i.place i.invariant c.requires.0
-    c.loop-place-test.true c.record_end-next.result
-    c.record_end-next.ensures _ _ c.write_line-end.ensures.value c.write_line-end.ensures.output_after
-
-pub shape_of-output : goal.shape_of-output
-shape_of-output c =
-    let i = c.loop-place in
-    printed_long _ _ _ _ _ _ i.invariant c.requires.0 c.requires.1
+pub loop-next-preserved : goal.loop-next-preserved
+loop-next-preserved c =
+    read_printed _ _ _ _ _ _ c.loop-next.invariant c.requires.0 _ c.read.ensures _ _ c.in-Ok.is _ _
+    c.write_line-end.ensures.value c.write_line-end.ensures.output_after
 
 pub returns : goal.returns
-returns c = reached_all _ _ _ _ _ _ c.loop-place.invariant c.loop-place-test.false
+returns c = reached_end _ _ _ _ _ _ c.loop-next.invariant c.requires.0 _ c.read.ensures _ c.in_default.is

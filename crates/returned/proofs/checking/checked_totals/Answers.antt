@@ -1,22 +1,14 @@
 -- `checking::checked_totals` meets its contract: the two counts of an accepted answer, or what its refusal returns, in
 -- one store (`value_stored`).
 -- Assumes nothing.
-use mathlib.Core.Path.{sym, ap, ◌∙◌}
-use Prim.Native.Nat.{ℕ}
-use lib.ListN.{set}
-use borrow.Author.Rules.{rules}
-use Rattle.rules.specs.Check.{checked_said}
-use Rattle.rules.specs.declared.checked.Checked.{Checked}
+use Rattle.std.proofs.Common.{ℕ, set, sym, ap, ◌∙◌, rules}
+use Rattle.rules.specs.Check.{Checked, checked_said}
 use Rattle.returned.specs.Returned.{values_by}
 use Rattle.returned.specs.Returned.Laws.{value_stored}
 use Rattle.returned.proofs.checking.checked_totals.Goals as goal
 
-pub returns-in-Kept : goal.returns-in-Kept
-returns-in-Kept c = sym (ap (λ (r : Checked). values_by 0 (checked_said r) c.args.old) c.in-Kept.is)
-
-pub returns-in-Refused : goal.returns-in-Refused
-returns-in-Refused c =
-    let old = c.args.old in
-    ap (λ (n : ℕ). set old 0 n) c.value_or.ensures
-    ∙ value_stored c.in-Refused.why old 0 (search rules)
-    ∙ sym (ap (λ (r : Checked). values_by 0 (checked_said r) old) c.in-Refused.is)
+pub returns-in-Err : goal.returns-in-Err
+returns-in-Err c =
+    ap (λ (n : ℕ). set c.args.old 0 n) c.value_or.ensures
+    ∙ value_stored c.in-Err.why c.args.old 0 (search rules)
+    ∙ sym (ap (λ (r : Checked). values_by 0 (checked_said r) c.args.old) c.in-Err.is)

@@ -1,64 +1,49 @@
 -- `check::check_listing` meets its contract: a window that stops the walk is the answer, and else the closing is, with
 -- the windows that are not found as those refused (`refused_rest`).
 -- Assumes nothing.
-use mathlib.Core.Path.{◌≡◌, refl, sym, ◌∙◌, subst}
-use native.Mathlib.Omega.{arith}
-use Prim.Native.Nat.{◌*◌, ◌≤◌}
+use Rattle.std.proofs.Common.{◌≡◌, ◌*◌, Ok, Err, sym, ◌∙◌, subst, arith, rules}
 use Rattle.shapes.specs.Questions.{asked}
 use Rattle.shapes.specs.Shapes.{across, down}
-use Rattle.counts.specs.Counts.Laws.{windows_small}
-use Rattle.claims.specs.declared.walks.Walk.TheVariants.{Goes}
 use Rattle.rules.specs.Check.{windows_to, found_to}
 use Rattle.verify.specs.Windows.{WindowsWalked, found_le}
 use Rattle.verify.specs.Answers.{stopped_answer, closing_stopped, closing_kept}
 use Rattle.verify.proofs.check.check_listing.Goals as goal
-use Rattle.verify.proofs.check.check_listing.Goals.{In-Passed}
+use Rattle.verify.proofs.check.check_listing.Goals.{In_ok-at}
 
 -- all windows are right: where they end, and how many stand as found
-passed : (c : In-Passed) → let a = c.args in
-    (windows_to (asked a.text.now a.pattern.now a.s) a.listing.now (down a.s * across a.s) ≡ Goes c.in-Passed.at)
-    × (c.in-Passed.found ≡ found_to (asked a.text.now a.pattern.now a.s) a.listing.now (down a.s * across a.s))
+passed : (c : In_ok-at)
+    → let q = asked c.args.text.now c.args.pattern.now c.args.s in
+    let n = down c.args.s * across c.args.s in
+    (windows_to q c.args.listing.now n ≡ Ok c.in_ok-at.field-0.at) × (c.in_ok-at.field-0.found ≡ found_to q c.args.listing.now n)
 passed c =
-    let a = c.args in
-    subst (WindowsWalked (asked a.text.now a.pattern.now a.s) a.listing.now) c.in-Passed.is c.check_windows-walked.ensures
+    subst (WindowsWalked (asked c.args.text.now c.args.pattern.now c.args.s) c.args.listing.now) c.in_ok-at.was
+    c.check_windows.ensures
 
--- those found are windows, and there are few
-few : (c : In-Passed) → let a = c.args in
-    (c.in-Passed.found ≤ down a.s * across a.s) × (down a.s * across a.s ≤ 65025)
-few c =
-    let a = c.args in (
-      omega (arith, (passed c).1, found_le (asked a.text.now a.pattern.now a.s) a.listing.now (down a.s * across a.s)),
-      omega (arith, windows_small a.s _ c.requires.shape),
-    )
-
-pub check_windows-walked-requires : goal.check_windows-walked-requires
-check_windows-walked-requires c = let p = c.requires in (p.shape, p.size)
-
-pub overflow_mul-windows : goal.overflow_mul-windows
-overflow_mul-windows c = omega (arith, (few (goal.at.overflow_mul-windows c).In-Passed).1)
+pub returns-in_err-at : goal.returns-in_err-at
+returns-in_err-at c =
+    let q = asked c.args.text.now c.args.pattern.now c.args.s in
+    let is : c.from_residual.result ≡ Err c.in_err-at.field-0.0 = search rules in
+    rw is (stopped_answer q c.args.listing.now c.in_err-at.field-0.0
+    (subst (WindowsWalked q c.args.listing.now) c.in_err-at.was c.check_windows.ensures))
 
 pub overflow_sub-refused : goal.overflow_sub-refused
-overflow_sub-refused c = (few (goal.at.overflow_sub-refused c).In-Passed).0
+overflow_sub-refused c =
+    let q = asked c.args.text.now c.args.pattern.now c.args.s in
+    omega (
+      arith,
+      (passed (goal.at.overflow_sub-refused c).In_ok-at).1,
+      found_le q c.args.listing.now (down c.args.s * across c.args.s),
+    )
 
-pub overflow_cast-refused-in-Passed : goal.overflow_cast-refused-in-Passed
-overflow_cast-refused-in-Passed c = omega (arith, (few (goal.at.overflow_cast-refused-in-Passed c).In-Passed).1)
+pub returns-in_err-_end : goal.returns-in_err-_end
+returns-in_err-_end c =
+    let p = passed (goal.at.returns-in_err-_end c).In_ok-at in
+    let is : c.from_residual-in_err-_end.result ≡ Err c.in_err-_end.field-0.0 = search rules in
+    rw is (closing_stopped (asked c.args.text.now c.args.pattern.now c.args.s) c.args.listing.now _ _ p.0 p.1 _
+    (omega (arith, c.from.ensures)) c.in_err-_end.field-0.0 (sym c.in_err-_end.was ∙ c.check_closing.ensures))
 
-pub returns-in-Stopped : goal.returns-in-Stopped
-returns-in-Stopped c =
-    let a = c.args in
-    stopped_answer (asked a.text.now a.pattern.now a.s) a.listing.now c.in-Stopped.why
-    (subst (WindowsWalked (asked a.text.now a.pattern.now a.s) a.listing.now) c.in-Stopped.is c.check_windows-walked.ensures)
-
-pub returns-in-Stops : goal.returns-in-Stops
-returns-in-Stops c =
-    let a = c.args in
-    let p = passed (goal.at.returns-in-Stops c).In-Passed in
-    closing_stopped (asked a.text.now a.pattern.now a.s) a.listing.now _ _ p.0 p.1 _ refl
-    c.in-Stops.why (sym c.in-Stops.is ∙ c.check_closing-last.ensures)
-
-pub returns-in-Goes : goal.returns-in-Goes
-returns-in-Goes c =
-    let a = c.args in
-    let p = passed (goal.at.returns-in-Goes c).In-Passed in
-    closing_kept (asked a.text.now a.pattern.now a.s) a.listing.now _ _ p.0 p.1 _ refl
-    c.in-Goes.field-0 (sym c.in-Goes.is ∙ c.check_closing-last.ensures)
+pub returns : goal.returns
+returns c =
+    let p = passed (goal.at.returns c).In_ok-at in
+    closing_kept (asked c.args.text.now c.args.pattern.now c.args.s) c.args.listing.now _ _ p.0 p.1 _
+    (omega (arith, c.from.ensures)) c.in_ok-_end._end (sym c.in_ok-_end.was ∙ c.check_closing.ensures)
