@@ -44,13 +44,7 @@ pub fn window_cell(text: &[u8], row_width: u8, row: u8, column: u8, i: u8, j: u8
 pub fn row_cells(text: &[u8], row_width: u8, row: u8, column: u8, width: u8) -> &[u8]
     ensures { result.now ≡ cells_of_row text.now row_width row column width }
 {
-    let start = (row as usize) * (row_width as usize) + column as usize;
-    let end = start + width as usize;
-    if end <= text.len() {
-        return &text[start..end];
-    }
-    if start <= text.len() {
-        return &text[start..];
-    }
-    &text[..0]
+    let start = usize::from(row) * usize::from(row_width) + usize::from(column);
+    let end = start + usize::from(width);
+    &text[start.min(text.len())..end.min(text.len())]
 }

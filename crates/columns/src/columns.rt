@@ -34,13 +34,13 @@ fn pair_symbol(
     if pattern.len() <= p {
         return;
     }
-    let b = pattern[p] as usize;
+    let b = usize::from(pattern[p]);
     if b != a {
         return;
     }
     let x = symbol_at(text, v, p);
-    forward[a] = x as u16;
-    backward[x as usize] = a as u16;
+    forward[a] = u16::from(x);
+    backward[usize::from(x)] = a as u16;
 }
 
 // The columns of a match, which come empty, from the first place of each symbol.
@@ -58,9 +58,7 @@ pub fn match_columns(
     ensures backward_after { backward.new
         ≡ column (window_of text.now v) (cell_of_pattern pattern.now) (cell_count v) }
 {
-    let mut a = 0;
-    while a < 256 {
+    for a in 0..256 {
         pair_symbol(text, v, pattern, first, forward, backward, a);
-        a += 1;
     }
 }

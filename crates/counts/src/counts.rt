@@ -2,95 +2,71 @@
 // out and one row in for each window, and begin afresh in the next strip.
 ghost use Rattle.std.specs.Prelude.{◌≡◌, [], ◌+◌, ◌*◌, ◌≤◌, ◌<◌, length};
 ghost use Rattle.theory.specs.Store.{stored, stored_rows};
-ghost use Rattle.occurrences.specs.Occurrences.{occurrences_of, Tracks};
+ghost use Rattle.occurrences.specs.Occurrences.{Tracks};
 ghost use Rattle.refusals.specs.Said.{outcome_said, filled};
 ghost use Rattle.shapes.specs.Questions.{four_sides};
-ghost use Rattle.cells.specs.Windows.{cells_of_row};
 ghost use Rattle.shapes.specs.Shapes.{ShapeOf, across, down};
 ghost use Rattle.counts.specs.Counts.{counts_said, counts_of, strip_cells, count_in};
 
-use occurrences::occurrences::{add_row, clear_occurrences, replace_row};
+use grid::strips::Strip;
+use occurrences::occurrences::Occurrences;
 use refusals::refusals::{Outcome, Reason, Refusal};
 use shapes::shapes::{Shape, text_outcome};
 
-// The part of row top that lies in the strip at column left.
-fn strip_row(text: &[u8], s: Shape, top: usize, left: usize) -> &[u8]
-    requires { ShapeOf s (length text.now) × (left + s.width ≤ s.columns) × (top < s.rows) }
-    ensures { result.now ≡ cells_of_row text.now s.columns top left s.width }
-{
-    let start = top * s.columns + left;
-    let end = start + s.width;
-    &text[start..end]
-}
-
 // The symbols of the strip's topmost window enter.
-fn add_window(occurrences: &mut [u32; 256], text: &[u8], s: Shape, left: usize) -> u32
-    requires { ShapeOf s (length text.now) × (left + s.width ≤ s.columns)
-        × Tracks (occurrences_of occurrences.old 0) [] }
-    ensures { Tracks (occurrences_of occurrences.new result) (strip_cells text.now s 0 left s.height) }
+fn add_window(occurrences: &mut Occurrences, text: &[u8], s: Shape, left: usize)
+    requires { ShapeOf s (length text.now) × (left + s.width ≤ s.columns) × Tracks occurrences.old [] }
+    ensures { Tracks occurrences.new (strip_cells text.now s 0 left s.height) }
 {
-    let height = s.height;
-    let mut size = 0;
-    let mut n = 0;
-    while n < height {
-        size = add_row(occurrences, size, strip_row(text, s, n, left));
-        n += 1;
+    let strip = Strip {
+        rows: s.rows,
+        columns: s.columns,
+        left,
+        width: s.width,
+    };
+    for n in 0..s.height {
+        occurrences.add_row(strip.row_cells(text, n));
     }
-    size
 }
 
 // From the window at row top to the one below it, if there is one: the top row leaves, the next one enters.
-fn slide(
-    occurrences: &mut [u32; 256],
-    size: u32,
-    text: &[u8],
-    s: Shape,
-    left: usize,
-    top: usize,
-) -> u32
+fn slide(occurrences: &mut Occurrences, text: &[u8], s: Shape, left: usize, top: usize)
     requires { ShapeOf s (length text.now) × (left + s.width ≤ s.columns) × (top + s.height ≤ s.rows)
-        × Tracks (occurrences_of occurrences.old size) (strip_cells text.now s top left s.height) }
-    ensures tracks { top + s.height < s.rows
-        → Tracks (occurrences_of occurrences.new result)
-        (strip_cells text.now s (top + 1) left s.height) }
-    ensures occurrences_len { length occurrences.new ≡ 256 }
+        × Tracks occurrences.old (strip_cells text.now s top left s.height) }
+    ensures { top + s.height < s.rows
+        → Tracks occurrences.new (strip_cells text.now s (top + 1) left s.height) }
 {
     let next = top + s.height;
     if next < s.rows {
-        return replace_row(
-            occurrences,
-            size,
-            strip_row(text, s, top, left),
-            strip_row(text, s, next, left),
-        );
+        let strip = Strip {
+            rows: s.rows,
+            columns: s.columns,
+            left,
+            width: s.width,
+        };
+        occurrences.replace_row(strip.row_cells(text, top), strip.row_cells(text, next));
     }
-    size
 }
 
-// The counts of the windows at column left, from the top down. The lent table is cleared first: what an earlier strip
-// left in it counts for nothing.
+// The counts of the windows at column left, from the top down. The lent occurrences are cleared first: what an earlier
+// strip left in them counts for nothing.
 fn strip_counts(
-    occurrences: &mut [u32; 256],
+    occurrences: &mut Occurrences,
     text: &[u8],
     s: Shape,
     left: usize,
     counts: &mut [u16],
 )
-    requires { ShapeOf s (length text.now) × (left < across s) × (down s * across s ≤ length counts.old)
-        × (length occurrences.old ≡ 256) }
-    ensures counts_after { counts.new ≡ stored (count_in text.now s) (λ top. top * across s + left) (down s)
-        counts.old }
-    ensures occurrences_len { length occurrences.new ≡ 256 }
+    requires { ShapeOf s (length text.now) × (left < across s) × (down s * across s ≤ length counts.old) }
+    ensures { counts.new ≡ stored (count_in text.now s) (λ top. top * across s + left) (down s) counts.old }
 {
     let width = s.columns + 1 - s.width;
     let height = s.rows + 1 - s.height;
-    clear_occurrences(occurrences);
-    let mut size = add_window(occurrences, text, s, left);
-    let mut top = 0;
-    while top < height {
-        counts[top * width + left] = size as u16;
-        size = slide(occurrences, size, text, s, left, top);
-        top += 1;
+    occurrences.clear();
+    add_window(occurrences, text, s, left);
+    for top in 0..height {
+        counts[top * width + left] = occurrences.size as u16;
+        slide(occurrences, text, s, left, top);
     }
 }
 
@@ -101,11 +77,9 @@ fn all_counts(text: &[u8], s: Shape, counts: &mut [u16])
         (across s) (down s) counts.old }
 {
     let width = s.columns + 1 - s.width;
-    let mut occurrences = [0u32; 256];
-    let mut left = 0;
-    while left < width {
+    let mut occurrences = Occurrences::none();
+    for left in 0..width {
         strip_counts(&mut occurrences, text, s, left, counts);
-        left += 1;
     }
 }
 

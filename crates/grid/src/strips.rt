@@ -3,13 +3,15 @@ ghost use Rattle.std.specs.Prelude.{◌≡◌, ℕ, ◌+◌, ◌-◌, ◌*◌, �
 ghost use Rattle.theory.specs.Test.{pick};
 ghost use Rattle.theory.specs.Store.{stored_rows};
 ghost use Rattle.refusals.specs.Said.{outcome_said, filled};
+ghost use Rattle.cells.specs.Windows.{cells_of_row};
 ghost use Rattle.grid.specs.Strips.{link, links_said, links_of, strip_from, strip_symbols, StripOf, LastPlaces};
 ghost use Rattle.grid.specs.Strips.{RowFrom, Linkable, LinkedRow};
 
-use cells::windows::row_cells;
+use cells::windows::WindowPlace;
 use refusals::refusals::{Outcome, Reason, Refusal};
 use shapes::shapes::{Shape, corner_inside, text_outcome};
-use shapes::tables::no_places;
+use shapes::tables::table;
+use view::WindowView;
 
 // All rows of the columns from left on, as many as the strip is wide.
 #[derive(Clone, Copy)]
@@ -20,7 +22,26 @@ pub struct Strip {
     pub width: usize,
 }
 
-// The distance from a place back to the last one, which is given as one more than it, or as 0 where there is none.
+impl Strip {
+    // Row i of the strip, as a part of the text: the strip is the window at its first column that is as tall as the
+    // text.
+    pub fn row_cells(self, text: &[u8], i: usize) -> &[u8]
+        requires { StripOf self (length text.now) × (i < self.rows) }
+        ensures { result.now ≡ cells_of_row text.now self.columns i self.left self.width }
+    {
+        let place = WindowPlace {
+            columns: self.columns,
+            row: 0,
+            column: self.left,
+            height: self.rows,
+            width: self.width,
+        };
+        WindowView { text, place }.row_cells(i)
+    }
+}
+
+// The distance from a place back to the last one, which is given as one more than it, or as 0 where there is none: a
+// table of `Option` takes three times as long a cell (2.9 ns for 0.9).
 fn distance(last: u16, place: usize) -> u16
     requires { (last ≤ place) × (place < 65535) }
     ensures { result ≡ pick (eqb last 0) 0 (place + 1 - last) }
@@ -28,7 +49,7 @@ fn distance(last: u16, place: usize) -> u16
     if last == 0 {
         return 0;
     }
-    (place + 1 - last as usize) as u16
+    (place + 1 - usize::from(last)) as u16
 }
 
 // The links of one row of a strip, whose first position is base. The last places are those before the row, and
@@ -38,13 +59,11 @@ fn link_row(row: &[u8], base: usize, last: &mut [u16; 256], links: &mut [u16])
     ensures { (s : ℕ → ℕ) → RowFrom s base row.now → LastPlaces s base last.old
         → LinkedRow s base (length row.now) links.old last.new links.new }
 {
-    let mut j = 0;
-    while j < row.len() {
-        let v = row[j] as usize;
+    for (j, &v) in row.iter().enumerate() {
+        let v = usize::from(v);
         let place = base + j;
         links[place] = distance(last[v], place);
         last[v] = (place + 1) as u16;
-        j += 1;
     }
 }
 
@@ -54,13 +73,9 @@ fn link_rows(text: &[u8], t: Strip, links: &mut [u16])
     ensures { links.new ≡ stored_rows (link (strip_symbols text.now t)) (λ i j. i * t.width + j)
         t.rows t.width links.old }
 {
-    let rows = t.rows;
-    let mut last = no_places();
-    let mut i = 0;
-    while i < rows {
-        let row = row_cells(text, t.columns as u8, i as u8, t.left as u8, t.width as u8);
-        link_row(row, i * t.width, &mut last, links);
-        i += 1;
+    let mut last = table(0);
+    for i in 0..t.rows {
+        link_row(t.row_cells(text, i), i * t.width, &mut last, links);
     }
 }
 

@@ -43,10 +43,12 @@ fn symbols_marked(marks: &[u8; 256]) -> Symbols
     ensures { result ≡ set_of (λ v. eqb (get_or marks.now v 0) 1) }
 {
     Symbols {
-        w0: mark_word(marks, 0),
-        w1: mark_word(marks, 64),
-        w2: mark_word(marks, 128),
-        w3: mark_word(marks, 192),
+        words: [
+            mark_word(marks, 0),
+            mark_word(marks, 64),
+            mark_word(marks, 128),
+            mark_word(marks, 192),
+        ],
     }
 }
 

@@ -11,7 +11,7 @@ use mapping::bijections::Bijection;
 use reach::reach::Far;
 use refusals::refusals::Refusal;
 use rows::rows::{earlier_by, part_end};
-use view::{window_row, window_symbol};
+use view::WindowView;
 
 // What is answered of a window.
 #[derive(Clone, Copy)]
@@ -38,7 +38,7 @@ pub fn symbol_at(text: &[u8], v: WindowPlace, p: usize) -> u8
     requires { Placed text.now v × (p < cell_count v) }
     ensures { result ≡ window_of text.now v p }
 {
-    window_symbol(text, v.columns, v.row, v.column, v.width, p)
+    WindowView { text, place: v }.symbol(p)
 }
 
 // The position at which a mismatch of the window ends first, with the mismatch's earlier position; where none ends, the
@@ -59,7 +59,7 @@ pub fn first_end(
     let mut from = 0;
     let mut i = 0;
     while i < height {
-        let row = window_row(text, v.columns, v.row, v.column, v.width, i);
+        let row = WindowView { text, place: v }.row_cells(i);
         let j = part_end(pattern, row, first, last, 0, from);
         if j < v.width {
             let x = row[j] as usize;

@@ -1,22 +1,18 @@
 -- Document 01's running tally: how often each symbol stands in a list, and how many different ones do.
 -- Assumes nothing.
 pub mod Laws
-use Rattle.std.specs.Prelude.{◌≡◌, List, ◌++◌, ℕ, ◌+◌, ◌≤◌, ◌<◌, length, get_or, drop}
+use Rattle.std.specs.Prelude.{◌≡◌, Bool, true, false, List, ◌++◌, ℕ, ◌+◌, ◌≤◌, ◌<◌, length, get_or}
 use Rattle.occurrences.specs.Distinct.{occurs, distinct}
+use Rattle.occurrences.specs.declared.occurrences.Occurrences.{Occurrences}
 
 -- a table of occurrences, and a number of different symbols
-pub record Occurrences : Type 0 where
-  pub counts : List ℕ
-  pub size : ℕ
-
--- as the code holds them
 abbrev pub occurrences_of : List ℕ → ℕ → Occurrences
-occurrences_of t n = record { counts = t; size = n }
+occurrences_of t n = record { of = t; size = n }
 
 -- o has how often each symbol stands in xs, and how many different ones do
 pub record Tracks (o : Occurrences) (xs : List ℕ) : Type 0 where
-  pub long : length o.counts ≡ 256
-  pub each : (v : ℕ) → v < 256 → get_or o.counts v 0 ≡ occurs v xs
+  pub long : length o.of ≡ 256
+  pub each : (v : ℕ) → v < 256 → get_or o.of v 0 ≡ occurs v xs
   pub size_is : o.size ≡ distinct xs
 
 -- o tracks a list that has room for n more symbols. No window has more than 65,025 cells, and none with one row more
@@ -49,10 +45,18 @@ Replaces o ys zs r = (xs : List ℕ) → Tracks o (ys ++ xs) → Tracks r (xs ++
 
 -- ---- a row, symbol by symbol
 
--- n tracks what o tracks without the first i symbols of row
-abbrev pub Dropped : Occurrences → List ℕ → ℕ → Occurrences → Type 0
-Dropped o row i n = (xs : List ℕ) → Tracks o (row ++ xs) → Tracks n (drop i row ++ xs)
+-- what o has to be where symbols enter (true), and where they leave
+abbrev pub Changeable : Bool → Occurrences → List ℕ → Type 0
+Changeable true o ys = RoomToAdd o (length ys)
+Changeable false o ys = Starts o ys
 
--- the first i symbols of two rows are the same
-abbrev pub AlikeTo : List ℕ → List ℕ → ℕ → Type 0
-AlikeTo ys zs i = (k : ℕ) → k < i → get_or ys k 0 ≡ get_or zs k 0
+-- r is what o becomes
+abbrev pub Changed : Bool → Occurrences → List ℕ → Occurrences → Type 0
+Changed true o ys r = Adds o ys r
+Changed false o ys r = Removes o ys r
+
+-- on the way from o to what a row makes of it: what is left of the row may be dealt with, and who has dealt with that
+-- has dealt with the row
+pub record Underway (b : Bool) (o : Occurrences) (row : List ℕ) (n : Occurrences) (rest : List ℕ) : Type 0 where
+  pub changeable : Changeable b n rest
+  pub whole : (r : Occurrences) → Changed b n rest r → Changed b o row r

@@ -7,7 +7,9 @@ pub mod Taken
 pub mod Listed
 pub mod Marking
 use Rattle.std.specs.Prelude.{◌≡◌, Bool, true, false, List, [], ◌∷◌, ℕ, zero, suc, ◌+◌, ◌*◌, ◌/◌, ◌%◌, ◌^◌, ◌≤◌, ◌<◌, eqb, length, get_or}
+use Rattle.std.specs.Prelude.{Option, Some, None}
 use Rattle.theory.specs.Test.{pick}
+use Rattle.theory.specs.Table.{table}
 use Rattle.theory.specs.First.{first}
 use Rattle.theory.specs.Count.{count, members}
 use Rattle.occurrences.specs.Distinct.{contains}
@@ -22,13 +24,13 @@ pub word_of : (ℕ → Bool) → ℕ → ℕ
 word_of P zero = 0
 word_of P (suc n) = pick (P zero) 1 0 + 2 * word_of (λ k. P (suc k)) n
 
+-- a set by its words
+abbrev pub with_words : List ℕ → Symbols
+with_words ws = record { words = ws }
+
 -- word i of a set: symbols 64 i to 64 i + 63. There are four.
 pub word_in : Symbols → ℕ → ℕ
-word_in s zero = s.w0
-word_in s (suc zero) = s.w1
-word_in s (suc (suc zero)) = s.w2
-word_in s (suc (suc (suc zero))) = s.w3
-word_in s (suc (suc (suc (suc i)))) = 0
+word_in s i = get_or s.words i 0
 
 -- symbol v is in the set
 pub has : Symbols → ℕ → Bool
@@ -36,13 +38,7 @@ has s v = bit_of (word_in s (v / 64)) (v % 64)
 
 -- the set of the symbols with P
 pub set_of : (ℕ → Bool) → Symbols
-set_of P =
-    record {
-      w0 = word_of P 64;
-      w1 = word_of (λ k. P (64 + k)) 64;
-      w2 = word_of (λ k. P (128 + k)) 64;
-      w3 = word_of (λ k. P (192 + k)) 64;
-    }
+set_of P = record { words = table (λ i. word_of (λ k. P (64 * i + k)) 64) 4 }
 
 -- the set of a list's symbols
 abbrev pub set_of_symbols : List ℕ → Symbols
@@ -59,6 +55,11 @@ size_of s = count (has s) 256
 -- the lowest one, or 256 where there is none
 abbrev pub lowest_of : Symbols → ℕ
 lowest_of s = first (has s) 256
+
+-- a symbol as a number: 256 for none
+abbrev pub symbol_number : Option ℕ → ℕ
+symbol_number (Some v) = v
+symbol_number None = 256
 
 -- the set without v
 abbrev pub without_symbol : Symbols → ℕ → Symbols

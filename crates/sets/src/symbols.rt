@@ -3,16 +3,13 @@ ghost use Rattle.std.specs.Prelude.{◌≡◌, false, ◌<◌, eqb, length};
 ghost use Rattle.theory.specs.Test.{pick};
 ghost use Rattle.theory.specs.Count.{members};
 ghost use Rattle.refusals.specs.Said.{over_front};
-ghost use Rattle.sets.specs.Symbols.{bit_of, word_of, has, size_of, lowest_of};
-ghost use Rattle.sets.specs.Symbols.{without_symbol};
+ghost use Rattle.sets.specs.Symbols.{bit_of, word_of, has, size_of, lowest_of, symbol_number};
+ghost use Rattle.sets.specs.Symbols.{with_words, without_symbol};
 
 // Bit k of word i is 1 where symbol 64 i + k is in the set.
 #[derive(Clone, Copy)]
 pub struct Symbols {
-    pub w0: u64,
-    pub w1: u64,
-    pub w2: u64,
-    pub w3: u64,
+    pub words: [u64; 4],
 }
 
 // The word with bit k set to 0.
@@ -27,71 +24,60 @@ fn clear_bit(w: u64, k: u8) -> u64
     }
 }
 
+// Takes v out of a set's words. A list that is lent says in a proof that its entries are words, an array in a struct
+// does not.
+fn clear_symbol(words: &mut [u64; 4], v: u8)
+    ensures { with_words words.new ≡ without_symbol (with_words words.old) v }
+{
+    let i = usize::from(v / 64);
+    words[i] = clear_bit(words[i], v % 64);
+}
+
 impl Symbols {
     // The set without v.
     pub fn without(self, v: u8) -> Symbols
         ensures { result ≡ without_symbol self v }
     {
-        let mut s = self;
-        let k = v % 64;
-        if v < 64 {
-            s.w0 = clear_bit(s.w0, k);
-            return s;
-        }
-        if v < 128 {
-            s.w1 = clear_bit(s.w1, k);
-            return s;
-        }
-        if v < 192 {
-            s.w2 = clear_bit(s.w2, k);
-            return s;
-        }
-        s.w3 = clear_bit(s.w3, k);
-        s
+        let mut words = self.words;
+        clear_symbol(&mut words, v);
+        Symbols { words }
     }
 
     // How many symbols are in the set.
     pub fn size(self) -> u32
         ensures { result ≡ size_of self }
     {
-        u64::count_ones(self.w0)
-            + u64::count_ones(self.w1)
-            + u64::count_ones(self.w2)
-            + u64::count_ones(self.w3)
+        let mut n = 0;
+        for w in self.words {
+            n += w.count_ones();
+        }
+        n
     }
 
-    // The lowest symbol in the set, or 256 where there is none.
-    pub fn lowest(self) -> u32
-        ensures { result ≡ lowest_of self }
+    // The lowest symbol in the set, if it has one.
+    pub fn lowest(self) -> Option<u8>
+        ensures { symbol_number result ≡ lowest_of self }
     {
-        if self.w0 != 0 {
-            return u64::trailing_zeros(self.w0);
+        for (i, w) in self.words.iter().enumerate() {
+            if *w != 0 {
+                return Some((64 * i as u32 + w.trailing_zeros()) as u8);
+            }
         }
-        if self.w1 != 0 {
-            return 64 + u64::trailing_zeros(self.w1);
-        }
-        if self.w2 != 0 {
-            return 128 + u64::trailing_zeros(self.w2);
-        }
-        192 + u64::trailing_zeros(self.w3)
+        None
     }
 }
 
-// The symbols of a set, rising, at the front of a list: for a walk that is made many times over.
+// The symbols of a set, rising, at the front of a list, and how many they are: for a walk that is made many times over.
 pub fn list_symbols(symbols: Symbols, listed: &mut [u8; 256]) -> usize
-    requires { length listed.old ≡ 256 }
     ensures value { result ≡ length (members (has symbols) 256) }
     ensures listed_after { listed.new ≡ over_front (members (has symbols) 256) listed.old }
 {
     let mut rest = symbols;
     let mut k = 0;
-    let mut a = rest.lowest();
-    while a < 256 {
-        let symbol = a as u8;
+    while let Some(symbol) = rest.lowest() {
         listed[k] = symbol;
         k += 1;
         rest = rest.without(symbol);
-        a = rest.lowest();
     }
     k
 }

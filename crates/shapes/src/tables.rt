@@ -1,6 +1,13 @@
-// Tables of 256 entries, one for each symbol, before anything stands in them. A literal of 256 entries in a function of
-// its own keeps it out of every other function's proof.
+// Tables before anything stands in them.
 ghost use Rattle.std.specs.Prelude.{◌≡◌, replicate};
+
+// A table of N entries, each of them x. A function of its own keeps a literal of many entries out of every other
+// function's proof.
+pub fn table<T: Copy, const N: usize>(x: T) -> [T; N]
+    ensures { result ≡ replicate N x }
+{
+    [x; N]
+}
 
 // A list before any symbol is in it.
 pub fn no_symbols() -> [u8; 256]

@@ -8,17 +8,12 @@ use sets::symbols::Symbols;
 pub fn words_of(s: Symbols) -> [u64; 4]
     ensures { result ≡ word_list s }
 {
-    [s.w0, s.w1, s.w2, s.w3]
+    s.words
 }
 
 // The set that four words hold.
 pub fn symbols_in(words: &[u64; 4]) -> Symbols
     ensures { result ≡ symbols_of_words words.now }
 {
-    Symbols {
-        w0: words[0],
-        w1: words[1],
-        w2: words[2],
-        w3: words[3],
-    }
+    Symbols { words: *words }
 }

@@ -1,13 +1,14 @@
 -- Reads of a window: a cell by row and column, a row as a part of the text, a window as its rows. Places are sums and
 -- products, so most of it is division with remainder by the width.
 -- Assumes nothing.
-use Rattle.std.specs.Prelude.{◌≡◌, ℕ, suc, ◌+◌, ◌-◌, ◌*◌, ◌/◌, ◌%◌, ◌≤◌, ◌<◌, length, get_or, take, drop}
+use Rattle.std.specs.Prelude.{◌≡◌, ℕ, suc, ◌+◌, ◌-◌, ◌*◌, ◌/◌, ◌%◌, ◌≤◌, ◌<◌, min, length, get_or, take, drop}
 use Rattle.std.proofs.Math.Path.{refl, sym, ap, ap₂}
 use Rattle.std.proofs.Common.{◌∙◌, add-zero, add-mul, add_assoc, zero-add, one-mul, mul-le-mul_right, mod-eq_of_lt, arith, drop_of_length-le, lt-ltb, le-ltb}
 use mathlib.Core.List.{List, [], ◌∷◌, ◌++◌}
 use Rattle.std.proofs.Math.Nat.{add_comm, suc-mul, zero-mul, min-le_left, mul-add-div_right, mul-add-mod_self_right, div-eq_of_lt}
 use Rattle.std.proofs.Math.ListN.{length-take, length-drop}
 use Rattle.std.proofs.Math.Seq.{get_or-take, get_or-drop, take_all, take-nil}
+use Rattle.std.proofs.Math.Decide.{dec_le}
 use Rattle.theory.specs.Test.Laws.{pick_true, pick_false}
 use Rattle.theory.specs.Table.{table}
 use Rattle.theory.specs.Table.Laws.{table-zero, length-table, get_or-table, table_ext, table-add, table_is}
@@ -83,19 +84,31 @@ module _ (text : List ℕ) (row_width : ℕ) where
   row_cells_is row column width = refl
 
   -- as far as the text goes
-  pub row_cells_cut : (row column width : ℕ) → length text ≤ row * row_width + column + width
-      → take (length text - (row * row_width + column)) (drop (row * row_width + column) text)
-      ≡ cells_of_row text row_width row column width
+  pub row_cells_cut : (row column width from end : ℕ) → from ≡ min (row * row_width + column) (length text)
+      → end ≡ min (row * row_width + column + width) (length text)
+      → take (end - from) (drop from text) ≡ cells_of_row text row_width row column width
   unfolding cells_of_row
-  row_cells_cut row column width h =
-      take_all (length text - (row * row_width + column)) (drop (row * row_width + column) text)
-      (rw length-drop (omega arith))
-      ∙ sym (take_all width (drop (row * row_width + column) text) (rw length-drop (omega arith)))
+  row_cells_cut row column width from end e d = go (dec_le (row * row_width + column) (length text))
+    where
+      go : Dec (row * row_width + column ≤ length text)
+          → take (end - from) (drop from text) ≡ take width (drop (row * row_width + column) text)
+      go (yes h) = inside (dec_le (row * row_width + column + width) (length text))
+        where
+          start : from ≡ row * row_width + column
+          start = omega arith
 
-  pub row_cells_past : (row column width : ℕ) → length text ≤ row * row_width + column
-      → cells_of_row text row_width row column width ≡ []
-  unfolding cells_of_row
-  row_cells_past row column width h = rw (drop_of_length-le text h) (take-nil width)
+          inside : Dec (row * row_width + column + width ≤ length text)
+              → take (end - from) (drop from text) ≡ take width (drop (row * row_width + column) text)
+          inside (yes l) =
+              let all : end - from ≡ width = omega arith in
+              ap₂ (λ (n k : ℕ). take n (drop k text)) all start
+          inside (no n) =
+              ap (λ (k : ℕ). take (end - from) (drop k text)) start
+              ∙ take_all (end - from) (drop (row * row_width + column) text) (rw length-drop (omega arith))
+              ∙ sym (take_all width (drop (row * row_width + column) text) (rw length-drop (omega arith)))
+      go (no n) =
+          ap (take (end - from)) (drop_of_length-le text {i = from} (omega arith)) ∙ take-nil (end - from)
+          ∙ sym (ap (take width) (drop_of_length-le text {i = row * row_width + column} (omega arith)) ∙ take-nil width)
 
   pub length_row_le : (row column width : ℕ) → length (cells_of_row text row_width row column width) ≤ width
   unfolding cells_of_row

@@ -25,9 +25,12 @@ use Rattle.cells.specs.Windows.{window_cells, cells_of_row}
 use Rattle.cells.specs.Windows.Laws.{corner_row_lem, corner_column_lem, row_inside, length_row_le, length-cells, cells_none}
 use Rattle.cells.specs.Windows.Laws.{length_row, cells_last_row, cells_first_row}
 use Rattle.occurrences.specs.Distinct.{distinct}
-use Rattle.occurrences.specs.Occurrences.{Occurrences, Tracks, RoomToAdd, Adds}
+use Rattle.occurrences.specs.Occurrences.{Tracks, RoomToAdd, Adds}
+use Rattle.occurrences.specs.declared.occurrences.Occurrences.{Occurrences}
 use Rattle.occurrences.specs.Occurrences.Laws.{size_le}
 use Rattle.shapes.specs.declared.shapes.Shape.{Shape}
+use Rattle.grid.specs.Strips.{StripOf, strip_from}
+use Rattle.grid.specs.Strips.Laws.{strip_of}
 use Rattle.counts.specs.Counts.{window_count, count_in, counts_said, counts_of, strip_cells}
 
 module _ (text : List ℕ) (s : Shape) (room : ℕ) where
@@ -99,6 +102,10 @@ module _ (text : List ℕ) (s : Shape) (left : ℕ) (shape : ShapeOf s (length t
   window_small : s.height * s.width ≤ 255 * 255
   window_small = product_le s.height s.width 255 255 (omega arith) (omega arith)
 
+  -- the strip that the rows are read of
+  pub beside_strip : StripOf (strip_from s.rows s.columns s.width left) (length text)
+  beside_strip = strip_of s left (length text) shape (omega arith)
+
   -- a row is as long as the strip is wide
   pub row_long : (at : ℕ) (row : List ℕ) → row ≡ cells_of_row text s.columns at left s.width → at < s.rows
       → length row ≡ s.width
@@ -168,12 +175,9 @@ tracks_start text s top left o k = rw (cells_none text s.columns left s.width to
 
 -- ---- the buffer, window by window
 
--- a window's place is small, and lies in the buffer
-pub place_lt : (across down top left : ℕ) → left < across → top < down → top * across + left < down * across
+-- a window's place lies in the buffer
+place_lt : (across down top left : ℕ) → left < across → top < down → top * across + left < down * across
 place_lt across down top left h k = omega (arith, mul-le-mul_right across k, suc-mul top across)
-
-pub windows_small : (s : Shape) (cells : ℕ) → ShapeOf s cells → down s * across s ≤ 255 * 255
-windows_small s cells v = product_le (down s) (across s) 255 255 (omega arith) (omega arith)
 
 -- the count of the window that the occurrences track, at its place
 pub count_at : (text : List ℕ) (s : Shape) (top left : ℕ) (o : Occurrences) → left < across s

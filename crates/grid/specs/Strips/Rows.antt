@@ -1,7 +1,8 @@
 -- How the code makes a strip's links, position by position and row by row: what its proofs cite.
 -- Assumes nothing.
-use Rattle.std.specs.Prelude.{◌≡◌, refl, List, [], ℕ, suc, ◌+◌, ◌-◌, ◌*◌, ◌/◌, ◌%◌, ◌≤◌, ◌<◌, eqb, length, get_or, set}
+use Rattle.std.specs.Prelude.{◌≡◌, refl, List, [], ℕ, suc, ◌+◌, ◌-◌, ◌*◌, ◌/◌, ◌%◌, ◌≤◌, ◌<◌, eqb, length, get_or, set, replicate}
 use Rattle.std.proofs.Common.{sym, ◌∙◌, ap, subst, add-zero, add-suc, suc-mul, mul-le-mul_right, mod-lt, div-lt_iff_lt-mul, div-add-mod', add-one, arith, length-set, get_or-set_same, get_or-set_other, ne_eqb}
+use Rattle.std.proofs.lemmas.List.{length-replicate, get_or-replicate}
 use Rattle.std.proofs.Math.Decide.{ℕ_discrete}
 use Rattle.theory.specs.Test.{pick}
 use Rattle.theory.specs.Store.{stored, stored_rows, Covers}
@@ -33,9 +34,12 @@ module _ (s : ℕ → ℕ) where
       linked_is s p (rw (ne_eqb (suc q) 0 (omega arith), gap)
       (back (p - q) (omega arith) (omega arith) (ap s same ∙ e) (λ k a b. later k (omega arith) b)))
 
-  pub last_places_none : (t : List ℕ) → length t ≡ 256 → ((v : ℕ) → v < 256 → get_or t v 0 ≡ 0) → LastPlaces s 0 t
-  last_places_none t l z =
-      record { long = l; each = λ v h. rw (z v h) (never (λ q b. absurd (below q b))) }
+  pub last_places_none : (t : List ℕ) → t ≡ replicate 256 0 → LastPlaces s 0 t
+  last_places_none t e =
+      rw e (record {
+        long = length-replicate {A = ℕ} 256 0;
+        each = λ v h. rw (get_or-replicate {A = ℕ} 256 v 0 0 h) (never (λ q b. absurd (below q b)));
+      })
     where
       below : (q : ℕ) → q < 0 → ⊥
       below q b = omega arith

@@ -206,12 +206,11 @@ word_marks_all marks from k w h e = e ∙ ap₂ (word_with_mark marks) place num
 pub marked_words : (marks : List ℕ) (a b c d : ℕ) → a ≡ word_with_mark marks 0 64 → b ≡ word_with_mark marks 64 64
     → c ≡ word_with_mark marks 128 64
     → d ≡ word_with_mark marks 192 64
-    → ◌≡◌ {A = Symbols} (record { w0 = a; w1 = b; w2 = c; w3 = d }) (set_of (λ v. eqb (get_or marks v 0) 1))
+    → ◌≡◌ {A = Symbols} (record { words = a ∷ b ∷ c ∷ d ∷ [] }) (set_of (λ v. eqb (get_or marks v 0) 1))
 unfolding word_in word_with_mark
-marked_words marks a b c d p q r s = words_set (record { w0 = a; w1 = b; w2 = c; w3 = d }) _ word
+marked_words marks a b c d p q r s = words_set (record { words = a ∷ b ∷ c ∷ d ∷ [] }) _ refl word
   where
-    word : (i : ℕ) → i < 4 → word_in (record { w0 = a; w1 = b; w2 = c; w3 = d }) i
-        ≡ word_of (λ k. eqb (get_or marks (64 * i + k) 0) 1) 64
+    word : (i : ℕ) → i < 4 → get_or (a ∷ b ∷ c ∷ d ∷ []) i 0 ≡ word_of (λ k. eqb (get_or marks (64 * i + k) 0) 1) 64
     word zero h = p
     word (suc zero) h = q
     word (suc (suc zero)) h = r

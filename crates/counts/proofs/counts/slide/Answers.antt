@@ -1,42 +1,33 @@
 -- `counts::slide` meets its contract: with the row below in place of its top row, a window is the next one down.
 -- Assumes nothing.
-use mathlib.Core.Path.{sym, ◌∙◌}
-use mathlib.Core.List.{◌++◌}
-use Prim.Native.Nat.{◌+◌, ◌-◌}
-use native.Mathlib.Omega.{arith}
-use Rattle.occurrences.specs.Occurrences.{Tracks, occurrences_of}
+use Rattle.std.proofs.Common.{sym, ◌∙◌, ◌++◌, ◌+◌, ◌-◌, arith}
+use Rattle.occurrences.specs.Occurrences.{Tracks}
 use Rattle.counts.specs.Counts.{strip_cells}
-use Rattle.counts.specs.Counts.Laws.{room_below, row_long, bottom_last, top_first}
+use Rattle.counts.specs.Counts.Laws.{room_below, row_long, bottom_last, top_first, beside_strip}
 use Rattle.counts.proofs.counts.slide.Goals as goal
-use Rattle.counts.proofs.counts.slide.Goals.{After-replace_row, After-strip_row}
+use Rattle.counts.proofs.counts.slide.Goals.{After-row_cells}
 
 -- the window's occurrences, its top row first
-top_occurrences : (c : After-strip_row) → let a = c.args in
-    Tracks (occurrences_of a.occurrences.now a.size)
-    (c.strip_row.result.now ++ strip_cells a.text.now a.s (a.top + 1) a.left (a.s.height - 1))
+top_occurrences : (c : After-row_cells) → let a = c.args in
+    Tracks a.occurrences.now (c.row_cells.result.now ++ strip_cells a.text.now a.s (a.top + 1) a.left (a.s.height - 1))
 top_occurrences c =
-    let a = c.args in
-    top_first _ _ _ c.requires.0 c.requires.1 _ a.top a.s.height _ c.requires.0.sized.sides.height_good.positive
-    (omega arith) c.requires.3 c.strip_row.ensures
+    top_first _ _ _ c.requires.0 c.requires.1 _ c.args.top c.args.s.height _
+    c.requires.0.sized.sides.height_good.positive (omega arith) c.requires.3 c.row_cells.ensures
 
--- the next window's occurrences
-next : (c : After-replace_row) → let a = c.args in
-    Tracks (occurrences_of c.replace_row.new.occurrences c.replace_row.result)
-    (strip_cells a.text.now a.s (a.top + 1) a.left a.s.height)
-next c =
-    let a = c.args in
-    bottom_last _ _ _ c.requires.0 c.requires.1 _ (a.top + 1) (a.s.height - 1) a.s.height (a.top + a.s.height) _
-    c.strip_row-then-next-s.ensures (omega arith) (omega arith) (omega arith)
-    (c.replace_row.ensures _ (top_occurrences (goal.at.After-replace_row c).After-strip_row))
+pub row_cells-requires : goal.row_cells-requires
+row_cells-requires c = (beside_strip _ _ _ c.requires.0 c.requires.1, omega arith)
+
+pub row_cells-requires-then-next-s : goal.row_cells-requires-then-next-s
+row_cells-requires-then-next-s c = (beside_strip _ _ _ c.requires.0 c.requires.1, omega arith)
 
 pub replace_row-requires : goal.replace_row-requires
 replace_row-requires c =
     let a = c.args in
-    let leaving = c.strip_row.ensures in
-    let entering = c.strip_row-then-next-s.ensures in
+    let leaving = c.row_cells.ensures in
+    let entering = c.row_cells-then-next-s.ensures in
     record {
       rest = strip_cells a.text.now a.s (a.top + 1) a.left (a.s.height - 1);
-      tracked = top_occurrences (goal.at.replace_row-requires c).After-strip_row;
+      tracked = top_occurrences (goal.at.replace_row-requires c).After-row_cells;
       as_long =
           row_long _ _ _ c.requires.0 c.requires.1 _ _ leaving (omega arith)
           ∙ sym (row_long _ _ _ c.requires.0 c.requires.1 _ _ entering (omega arith));
@@ -44,7 +35,7 @@ replace_row-requires c =
     }
 
 pub returns-then-next-s : goal.returns-then-next-s
-returns-then-next-s c = record { tracks = (λ h. next c); occurrences_len = (next c).long }
-
-pub returns : goal.returns
-returns c = record { tracks = (λ h. absurd (omega arith)); occurrences_len = c.requires.3.long }
+returns-then-next-s c = λ h.
+    bottom_last _ _ _ c.requires.0 c.requires.1 _ (c.args.top + 1) (c.args.s.height - 1) c.args.s.height
+    (c.args.top + c.args.s.height) _ c.row_cells-then-next-s.ensures (omega arith) (omega arith) c.if-next-s.true
+    (c.replace_row.ensures _ (top_occurrences (goal.at.returns-then-next-s c).After-row_cells))

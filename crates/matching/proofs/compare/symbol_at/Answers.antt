@@ -4,5 +4,5 @@
 use Rattle.matching.specs.Compare.Positions.{position_inside}
 use Rattle.matching.proofs.compare.symbol_at.Goals as goal
 
-pub window_symbol-requires : goal.window_symbol-requires
-window_symbol-requires c = position_inside _ _ c.requires.0 _ c.requires.1
+pub symbol-requires : goal.symbol-requires
+symbol-requires c = position_inside _ _ c.requires.0 _ c.requires.1

@@ -1,13 +1,12 @@
--- What holds each time a loop of `symbols::list_symbols` begins a round, and what falls; `Answers.antt` says why.
-use mathlib.Core.Path.{◌≡◌}
-use lib.ListN.{length}
+-- What holds each time the loop of `symbols::list_symbols` begins a round, and what falls; `Answers.antt` says why.
+use Rattle.std.proofs.Common.{length}
 use Rattle.theory.specs.Count.{members}
-use Rattle.sets.specs.Symbols.{has, lowest_of}
+use Rattle.sets.specs.Symbols.{has}
 use Rattle.sets.specs.Symbols.Listed.{Listed}
 use Rattle.sets.proofs.symbols.list_symbols.Given as goal
 
-abbrev pub invariant-loop-a : goal.invariant-loop-a
-invariant-loop-a l = (l.a ≡ lowest_of l.rest) × Listed l.initial.rest l.rest l.initial.listed l.k l.listed
+abbrev pub invariant-loop-symbol : goal.invariant-loop-symbol
+invariant-loop-symbol l = Listed l.initial.rest l.rest l.initial.listed l.k l.listed
 
-abbrev pub decreases-loop-a : goal.decreases-loop-a
-decreases-loop-a l = length (members (has l.rest) 256)
+abbrev pub decreases-loop-symbol : goal.decreases-loop-symbol
+decreases-loop-symbol l = length (members (has l.rest) 256)

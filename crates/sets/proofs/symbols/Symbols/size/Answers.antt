@@ -1,22 +1,30 @@
--- `sets::symbols::Symbols::size` meets its contract: the ones of word i are the symbols 64 i to 64 i + 63 of the set,
--- and a word has at most 64, so no sum is too large.
+-- `Symbols::size` meets its contract. The invariant: the ones of the words passed are the symbols of the set below them.
+-- A word has at most 64 ones, so the sum is small.
 -- Assumes nothing.
-use native.Mathlib.Omega.{arith}
-use Rattle.sets.specs.Symbols.Blocks.{SmallWords, ones_small, size_words}
+use Rattle.std.proofs.Common.{◌∙◌, ◌≤◌, ◌<◌, ◌^◌, ℕ, Fits, w64, ap, arith}
+use Rattle.std.specs.Int.Count.{ones}
+use Rattle.std.proofs.lemmas.Nat.{ones-le}
+use Rattle.theory.specs.Count.{count}
+use Rattle.sets.specs.Symbols.{has}
+use Rattle.sets.specs.Symbols.Blocks.{ones_none, ones_more, ones_few}
 use Rattle.sets.proofs.symbols.Symbols.size.Goals as goal
-use Rattle.sets.proofs.symbols.Symbols.size.Goals.{Start}
 
-small : (c : Start) → SmallWords c.args.self
-small c = omega arith
+word : (w : ℕ) → Fits w64 w → w < 2 ^ 64
+word w h = omega (arith, h)
 
-pub overflow_add-result : goal.overflow_add-result
-overflow_add-result c = omega (arith, ones_small c.args.self (small (goal.at.overflow_add-result c).Start))
+few : (w : ℕ) → Fits w64 w → ones w ≤ 64
+few w h = ones-le 64 w (word w h)
 
-pub overflow_add-result-2 : goal.overflow_add-result-2
-overflow_add-result-2 c = omega (arith, ones_small c.args.self (small (goal.at.overflow_add-result-2 c).Start))
+pub loop-w-init : goal.loop-w-init
+loop-w-init c = ones_none c.args.self
 
-pub overflow_add-result-3 : goal.overflow_add-result-3
-overflow_add-result-3 c = omega (arith, ones_small c.args.self (small (goal.at.overflow_add-result-3 c).Start))
+pub overflow_add-n : goal.overflow_add-n
+overflow_add-n c =
+    omega (arith, ones_few c.args.self c.loop-w.w-index c.loop-w.n c.loop-w.invariant, few _ c.loop-w-test.element_fits)
+
+pub loop-w-preserved : goal.loop-w-preserved
+loop-w-preserved c =
+    ones_more c.args.self c.loop-w.w-index c.loop-w.n (word _ c.loop-w-test.element_fits) c.loop-w.invariant
 
 pub returns : goal.returns
-returns c = size_words c.args.self (small (goal.at.returns c).Start)
+returns c = c.loop-w.invariant ∙ ap (count (has c.args.self)) (omega arith)
