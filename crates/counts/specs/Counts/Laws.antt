@@ -176,7 +176,7 @@ tracks_start text s top left o k = rw (cells_none text s.columns left s.width to
 -- ---- the buffer, window by window
 
 -- a window's place lies in the buffer
-place_lt : (across down top left : ℕ) → left < across → top < down → top * across + left < down * across
+pub place_lt : (across down top left : ℕ) → left < across → top < down → top * across + left < down * across
 place_lt across down top left h k = omega (arith, mul-le-mul_right across k, suc-mul top across)
 
 -- the count of the window that the occurrences track, at its place
@@ -184,6 +184,9 @@ pub count_at : (text : List ℕ) (s : Shape) (top left : ℕ) (o : Occurrences) 
     → Tracks o (strip_cells text s top left s.height)
     → o.size ≡ count_in text s (top * across s + left)
 count_at text s top left o h k = k.size_is ∙ sym (window_count_lem text s.columns s.height s.width top left h)
+
+pub windows_small : (s : Shape) (cells : ℕ) → ShapeOf s cells → down s * across s ≤ 255 * 255
+windows_small s cells v = product_le (down s) (across s) 255 255 (omega arith) (omega arith)
 
 -- every window lies in one strip
 pub windows_covered : (s : Shape) → 0 < across s
