@@ -9,13 +9,6 @@ ghost use Rattle.placed.specs.Placing.{placed};
 use cells::windows::cell_offset;
 use placed::placing::{Placing, pattern_at, pattern_cells};
 
-// Eight times the corner itself: a pair of a cell with itself, which is alike in every window.
-pub fn no_offsets() -> [usize; 8]
-    ensures { result ≡ replicate 8 0 }
-{
-    [0usize; 8]
-}
-
 // Up to eight pairs of cells that are alike in the pattern, as offsets: the first positions whose symbol stands before
 // them, each with the first place of that symbol. The contract says only that all eight are alike; which they are is a
 // matter of time.

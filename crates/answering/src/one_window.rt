@@ -8,12 +8,13 @@ ghost use Rattle.matching.specs.Compare.{cell_of_pattern, window_of, cell_count,
 ghost use Rattle.matching.specs.Compare.{bijection_of, place_said, told, one_window_of};
 
 use cells::windows::WindowPlace;
-use columns::columns::{match_columns, no_images};
+use columns::columns::match_columns;
 use mapping::bijections::{Bijection, empty};
 use matching::compare::{Verdict, WindowAnswer, first_end, mismatch_between};
 use refusals::refusals::{Outcome, Reason, Refusal};
-use rows::places::{first_places, no_positions};
+use rows::places::first_places;
 use shapes::shapes::{Shape, corner_inside, question_outcome};
+use shapes::tables::table;
 
 // The pattern compared with the window of its size.
 fn compare(text: &[u8], v: WindowPlace, pattern: &[u8]) -> WindowAnswer
@@ -24,8 +25,8 @@ fn compare(text: &[u8], v: WindowPlace, pattern: &[u8]) -> WindowAnswer
         (answer_of (cell_of_pattern pattern.now) (window_of text.now v) (cell_count v)) }
 {
     let n = v.height * v.width;
-    let mut first = no_positions();
-    let mut last = no_positions();
+    let mut first = table(0);
+    let mut last = table(0);
     first_places(pattern, &mut first);
     let end = first_end(text, v, pattern, &first, &mut last);
     if end.place < n {
@@ -36,8 +37,8 @@ fn compare(text: &[u8], v: WindowPlace, pattern: &[u8]) -> WindowAnswer
             bijection: none,
         };
     }
-    let mut f = no_images();
-    let mut g = no_images();
+    let mut f = table(256);
+    let mut g = table(256);
     match_columns(text, v, pattern, &first, &mut f, &mut g);
     let b = Bijection {
         forward: f,

@@ -7,13 +7,6 @@ ghost use Rattle.columns.specs.Columns.{MatchAt, PairsTo};
 use cells::windows::WindowPlace;
 use matching::compare::symbol_at;
 
-// A column without images.
-pub fn no_images() -> [u16; 256]
-    ensures { result ≡ empty_images }
-{
-    [256u16; 256]
-}
-
 // The symbol a of the pattern, if it is one, is paired with the window's symbol at a's first place. The columns come
 // with the pairs of the symbols below a.
 fn pair_symbol(

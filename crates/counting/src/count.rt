@@ -16,10 +16,9 @@ use flagged::windows::flag_all;
 use placed::placing::{AS_IT_IS, Placing};
 use refusals::refusals::Outcome;
 use rooms::rooms::room_outcome;
-use rows::places::no_positions;
 use searched::answer::Searched;
 use shapes::shapes::Shape;
-use shapes::tables::no_symbols;
+use shapes::tables::table;
 use totals::pattern::read_pattern;
 use totals::totals::{Totals, totals_of};
 
@@ -75,11 +74,11 @@ pub fn count_laid(
         (working links.old counts.old flags.old) }
     ensures totalled { Totalled text.now (placed pattern.now g) s result.found result.refused result.length }
 {
-    let mut first = no_positions();
-    let mut listed = no_symbols();
+    let mut first = table(0);
+    let mut listed = table(0);
     let symbols = read_pattern(pattern, g, &mut first, &mut listed);
-    let mut selves = no_positions();
-    let mut earlies = no_positions();
+    let mut selves = table(0);
+    let mut earlies = table(0);
     count_flagged(
         text,
         pattern,

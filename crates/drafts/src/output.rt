@@ -4,6 +4,7 @@ ghost use Rattle.printing.specs.Lines.{Recorded};
 
 use printing::lines::{write_lines, write_refusal};
 use refusals::refusals::{Refusal, refusal_number};
+use shapes::tables::table;
 use std::io;
 
 // Writes bytes as they are.
@@ -41,16 +42,9 @@ fn print_named(rt: &HostRuntime, name: &[u8], n: usize) -> io::Result<()> {
     print(rt, b"\n")
 }
 
-// Room for the line of a refusal.
-fn refusal_room() -> [u8; 12]
-    ensures { 12 ≡ length result }
-{
-    [0; 12]
-}
-
 // The line of a refusal.
 fn print_refused(rt: &HostRuntime, why: Refusal) -> io::Result<()> {
-    let mut output = refusal_room();
+    let mut output: [u8; 12] = table(0);
     let length = write_refusal(&mut output, 0, refusal_number(why));
     print(rt, &output[..length])
 }
@@ -87,18 +81,11 @@ pub fn print_counts(rt: &HostRuntime, found: u16, refused: u16) -> io::Result<()
     print(rt, b"\n")
 }
 
-// Room for the lines of the longest listing that a draft has, 64 bytes.
-fn lines_room() -> [u8; 256]
-    ensures { 256 ≡ length result }
-{
-    [0; 256]
-}
-
-// A whole listing, a record a line.
+// A whole listing, a record a line: there is room for the lines of the longest listing that a draft has, 64 bytes.
 pub fn print_listing(rt: &HostRuntime, listing: &[u8]) -> io::Result<()>
     requires { Recorded listing.now × (length listing.now ≤ 64) }
 {
-    let mut output = lines_room();
+    let mut output: [u8; 256] = table(0);
     let length = write_lines(&mut output, 0, listing);
     print(rt, &output[..length])
 }

@@ -27,7 +27,10 @@ pub extern "C" fn colourway_symbols_size(words: &[u64; 4]) -> u32
 pub extern "C" fn colourway_symbols_lowest(words: &[u64; 4]) -> u32
     ensures { result ≡ lowest_of (symbols_of_words words.now) }
 {
-    symbols_in(words).lowest().map_or(256, u32::from)
+    match symbols_in(words).lowest() {
+        Some(v) => u32::from(v),
+        None => 256,
+    }
 }
 
 // Takes symbol v out of a set.

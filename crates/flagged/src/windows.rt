@@ -12,11 +12,12 @@ ghost use Rattle.sweep.specs.Sweep.{OwnSoFar, SweepAt};
 ghost use Rattle.alike.specs.Pairs.{AlikePairs};
 ghost use Rattle.placed.specs.Placing.{placed};
 
-use alike::pairs::{alike_pairs, no_offsets};
+use alike::pairs::alike_pairs;
 use counts::counts::distinct_counts;
 use flagging::strip::flag_column;
 use placed::placing::Placing;
 use shapes::shapes::Shape;
+use shapes::tables::table;
 
 // The flags of all windows, strip by strip.
 fn flag_windows(
@@ -92,8 +93,8 @@ pub fn flag_all(
     ensures own_so_far { OwnSoFar (placed pattern.now g) s.width (down s) selves.new earlies.new }
 {
     distinct_counts(text, s.rows, s.columns, s.height, s.width, counts);
-    let mut earlier = no_offsets();
-    let mut later = no_offsets();
+    let mut earlier = table(0);
+    let mut later = table(0);
     alike_pairs(
         pattern,
         g,

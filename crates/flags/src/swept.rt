@@ -14,8 +14,8 @@ ghost use Rattle.placed.specs.Placing.{placed};
 use grid::strips::Strip;
 use linked::run::{RunFlag, flag_by};
 use placed::placing::{Placing, pattern_cells};
-use rows::places::no_positions;
 use shapes::shapes::Shape;
+use shapes::tables::table;
 use sieve::pairs::pairs_pass;
 use sweep::steps::{compared, laid_compared, next_end};
 use sweep::windows::ready_ends;
@@ -209,7 +209,7 @@ pub fn flags_to_match(
 {
     let across = s.columns + 1 - s.width;
     let down = s.rows + 1 - s.height;
-    let mut last = no_positions();
+    let mut last = table(0);
     let mut row = 0;
     let mut reached = 0;
     let mut top = 0;

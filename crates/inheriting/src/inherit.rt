@@ -7,7 +7,8 @@ ghost use Rattle.inheriting.specs.Inheritance.{Follows, own_end_of, OwnEndsMade,
 
 use cells::windows::WindowPlace;
 use placed::placing::AS_IT_IS;
-use rows::places::{first_places, no_positions};
+use rows::places::first_places;
+use shapes::tables::table;
 use sweep::own::own_ends;
 
 // The first end of the pattern's rows from k on against the pattern itself. All of them are made when one is first
@@ -26,8 +27,8 @@ fn own_end(
     if 0 < selves[0] {
         return selves[k];
     }
-    let mut first = no_positions();
-    let mut earlies = no_positions();
+    let mut first = table(0);
+    let mut earlies = table(0);
     first_places(pattern, &mut first);
     own_ends(
         pattern,

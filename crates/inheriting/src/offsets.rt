@@ -10,14 +10,8 @@ ghost use Rattle.sweep.specs.Sweep.{SidesOf};
 ghost use Rattle.inheriting.specs.Offsets.{image_from_behind, Offsets, Prepared};
 
 use cells::windows::cell_offset;
-use rows::places::{first_places, no_positions};
-
-// No offset yet. The last entry is no symbol's: it says whether the others are made.
-pub fn unmade_offsets() -> [usize; 257]
-    ensures { result ≡ replicate 257 0 }
-{
-    [0usize; 257]
-}
+use rows::places::first_places;
+use shapes::tables::table;
 
 // The offset of each of the pattern's symbols, from the symbol's first place.
 fn first_offsets(
@@ -60,7 +54,7 @@ pub fn make_offsets(
         return;
     }
     offsets[256] = 1;
-    let mut first = no_positions();
+    let mut first = table(0);
     first_places(pattern, &mut first);
     first_offsets(pattern, symbols, columns, height, width, &first, offsets);
 }

@@ -18,10 +18,9 @@ ghost use Rattle.placed.specs.Placing.{placed};
 use placed::placing::{AS_IT_IS, Placing};
 use refusals::refusals::{Outcome, Reason, Refusal, outcome_then};
 use rooms::rooms::{flags_room_outcome, listing_room_outcome};
-use rows::places::no_positions;
 use searched::answer::Searched;
 use shapes::shapes::Shape;
-use shapes::tables::no_symbols;
+use shapes::tables::table;
 use totals::pattern::read_pattern;
 use totals::totals::{Totals, totals_of};
 use truth::strips::flags_true;
@@ -109,11 +108,11 @@ fn list_posed(text: &[u8], pattern: &[u8], s: Shape, flags: &[u8], listing: &mut
         (search_listing (asked text.now pattern.now s)) listing.old }
 {
     let n = (s.rows + 1 - s.height) * (s.columns + 1 - s.width);
-    let mut first = no_positions();
-    let mut listed = no_symbols();
+    let mut first = table(0);
+    let mut listed = table(0);
     let symbols = read_pattern(pattern, AS_IT_IS, &mut first, &mut listed);
-    let mut selves = no_positions();
-    let mut earlies = no_positions();
+    let mut selves = table(0);
+    let mut earlies = table(0);
     let judged = truth_outcome(text, pattern, s, &first, &mut selves, &mut earlies, flags);
     let totals = totals_of(pattern, AS_IT_IS, symbols, flags, n);
     let d = symbols as usize;

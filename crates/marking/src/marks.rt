@@ -5,14 +5,14 @@ ghost use Rattle.sets.specs.Symbols.{set_of, set_of_symbols};
 ghost use Rattle.sets.specs.Symbols.{Marks, MarksOf, PlacesOf, word_with_mark};
 
 use sets::symbols::Symbols;
-use shapes::tables::no_symbols;
+use shapes::tables::table;
 
 // The marks of a pattern: 1 for each symbol that it has, 0 for the others. A cell costs one store and no branch, so a
 // large pattern is read at the speed of its bytes.
 fn marks_of(pattern: &[u8]) -> [u8; 256]
     ensures { MarksOf pattern.now result }
 {
-    let mut marks = no_symbols();
+    let mut marks = table(0);
     let mut i = 0;
     while i < pattern.len() {
         let v = pattern[i] as usize;
@@ -80,7 +80,7 @@ fn marks_by(pattern: &[u8], places: &[usize; 256]) -> [u8; 256]
     requires { PlacesOf pattern.now places.now }
     ensures { MarksOf pattern.now result }
 {
-    let mut marks = no_symbols();
+    let mut marks = table(0);
     let mut v = 0;
     while v < 256 {
         let p = places[v];

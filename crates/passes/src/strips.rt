@@ -13,8 +13,8 @@ ghost use Rattle.placed.specs.Placing.{placed};
 
 use entries::entries::{strip_window, write_refused};
 use placed::placing::Placing;
-use rows::places::no_positions;
 use shapes::shapes::Shape;
+use shapes::tables::table;
 use sweep::windows::window_end;
 
 // The records of the refused windows at column left. A found one has size bytes, which are written already; it is
@@ -47,7 +47,7 @@ fn write_strip(
 {
     let wide = s.columns + 1 - s.width;
     let tall = s.rows + 1 - s.height;
-    let mut last = no_positions();
+    let mut last = table(0);
     let mut row = 0;
     let mut reached = 0;
     let mut top = 0;

@@ -12,6 +12,7 @@ use printing::lines::{write_lines, write_refusal};
 use refusals::refusals::{Outcome, Refusal, refusal_number};
 use search::search::search;
 use searched::answer::Searched;
+use shapes::tables::table;
 
 // The first length bytes are the output. The longest listing has 65,536 bytes, and a byte of it takes at most four.
 #[derive(Drop)]
@@ -20,38 +21,11 @@ pub struct Output {
     pub length: usize,
 }
 
-fn output_buffer() -> [u8; 262144]
-    ensures { 262144 ≡ length result }
-{
-    [0; 262144]
-}
-
-// The program's listing buffer.
-fn listing_buffer() -> [u8; 65536]
-    ensures { 65536 ≡ length result }
-{
-    [0; 65536]
-}
-
-// Links or counts: an entry for each cell of the largest text.
-fn entry_buffer() -> [u16; 16384]
-    ensures { 16384 ≡ length result }
-{
-    [0; 16384]
-}
-
-// Flags, likewise.
-fn flag_buffer() -> [u8; 16384]
-    ensures { 16384 ≡ length result }
-{
-    [0; 16384]
-}
-
 // The output of a refused input.
 fn refused_output(why: Refusal) -> Output
     ensures { Begins result.length result.bytes (refusal_line (number_of why)) }
 {
-    let mut bytes = output_buffer();
+    let mut bytes = table(0);
     let length = write_refusal(&mut bytes, 0, refusal_number(why));
     Output { bytes, length }
 }
@@ -61,7 +35,7 @@ fn listed_output(listing: &[u8]) -> Output
     requires { Recorded listing.now × (length listing.now ≤ 65536) }
     ensures { BeginsWithLines listing.now result.length result.bytes }
 {
-    let mut bytes = output_buffer();
+    let mut bytes = table(0);
     let length = write_lines(&mut bytes, 0, listing);
     Output { bytes, length }
 }
@@ -78,10 +52,11 @@ fn searched_output(input: &[u8]) -> Output
     let cut = 4 + rows * columns;
     let text = &input[4..cut];
     let pattern = &input[cut..];
-    let mut links = entry_buffer();
-    let mut counts = entry_buffer();
-    let mut flags = flag_buffer();
-    let mut listing = listing_buffer();
+    // An entry for each cell of the largest text, and the longest listing.
+    let mut links: [u16; 16384] = table(0);
+    let mut counts: [u16; 16384] = table(0);
+    let mut flags: [u8; 16384] = table(0);
+    let mut listing: [u8; 65536] = table(0);
     let answer = search(
         text,
         rows,

@@ -1,4 +1,4 @@
-// Tables of 256 positions: none yet, and the first place of each symbol of a pattern.
+// The first place of each symbol of a pattern.
 ghost use Rattle.std.specs.Prelude.{◌≡◌, ◌<◌, length, get_or, replicate};
 ghost use Rattle.prefixes.specs.State.{FirstPlaces};
 
@@ -10,14 +10,7 @@ pub fn plain_at(pattern: &[u8], p: usize) -> u8
     pattern[p]
 }
 
-// No position yet. The tables are of usize, so that a place needs no cast.
-pub fn no_positions() -> [usize; 256]
-    ensures { result ≡ replicate 256 0 }
-{
-    [0usize; 256]
-}
-
-// The first place of each symbol of the pattern, from its end on.
+// The first place of each symbol of the pattern, from its end on. The table is of usize, so that a place needs no cast.
 pub fn first_places(pattern: &[u8], first: &mut [usize; 256])
     requires { length first.old ≡ 256 }
     ensures { FirstPlaces (λ k. get_or pattern.now k 0) (length pattern.now) first.new }

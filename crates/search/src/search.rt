@@ -12,10 +12,9 @@ use lister::list::list_flagged;
 use placed::placing::{AS_IT_IS, Placing};
 use refusals::refusals::Outcome;
 use rooms::rooms::room_outcome;
-use rows::places::no_positions;
 use searched::answer::Searched;
 use shapes::shapes::Shape;
-use shapes::tables::no_symbols;
+use shapes::tables::table;
 use totals::pattern::read_pattern;
 
 // The search where nothing but the listing's room is left to ask: what Count does, and then what List does once it
@@ -37,11 +36,11 @@ pub fn search_windows(
         ≡ listed_of (asked text.now (placed pattern.now g) s)
         (lend links.old counts.old flags.old listing.old) }
 {
-    let mut first = no_positions();
-    let mut listed = no_symbols();
+    let mut first = table(0);
+    let mut listed = table(0);
     let symbols = read_pattern(pattern, g, &mut first, &mut listed);
-    let mut selves = no_positions();
-    let mut earlies = no_positions();
+    let mut selves = table(0);
+    let mut earlies = table(0);
     let totals = count_flagged(
         text,
         pattern,

@@ -8,7 +8,7 @@ ghost use Rattle.placed.specs.Placing.{placed};
 use crate::steps::Step;
 use placed::placing::{Placing, pattern_at};
 use rows::laid::{laid_earlier_by, own_part_end};
-use rows::places::no_positions;
+use shapes::tables::table;
 
 // How many of the pattern's own windows are asked for: the pattern has one for each row, and in a strip of so many
 // windows the last is fewer rows below the first.
@@ -117,7 +117,7 @@ pub fn own_ends(
     ensures { OwnMismatches (placed pattern.now g) width (rows * width) n selves.new
         earlies.new }
 {
-    let mut last = no_positions();
+    let mut last = table(0);
     selves[0] = rows * width;
     earlies[0] = 0;
     let mut row = 1;

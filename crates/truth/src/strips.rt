@@ -11,11 +11,11 @@ ghost use Rattle.flags.specs.Flags.{flags_truth};
 ghost use Rattle.truth.specs.Truth.{column_true};
 ghost use Rattle.placed.specs.Placing.{placed};
 
-use alike::pairs::{alike_pairs, no_offsets, pairs_alike};
+use alike::pairs::{alike_pairs, pairs_alike};
 use grid::strips::Strip;
 use placed::placing::{Placing, pattern_cells};
-use rows::places::no_positions;
 use shapes::shapes::Shape;
+use shapes::tables::table;
 use sieve::spoilers::{Spoiler, kept_spoiler, no_spoiler, spoiled};
 use sweep::steps::{Step, compared, laid_compared, next_end};
 use sweep::windows::ready_ends;
@@ -133,7 +133,7 @@ fn strip_true(
 {
     let wide = s.columns + 1 - s.width;
     let tall = s.rows + 1 - s.height;
-    let mut last = no_positions();
+    let mut last = table(0);
     let mut spoiler = x;
     let mut seen = 0;
     let mut row = 0;
@@ -188,8 +188,8 @@ pub fn flags_true(
     ensures own_so_far { OwnSoFar (placed pattern.now g) s.width (down s) selves.new earlies.new }
 {
     let wide = s.columns + 1 - s.width;
-    let mut earlier = no_offsets();
-    let mut later = no_offsets();
+    let mut earlier = table(0);
+    let mut later = table(0);
     alike_pairs(
         pattern,
         g,

@@ -10,15 +10,13 @@ ghost use Rattle.verify.specs.Windows.{WindowsWalked};
 
 use cells::windows::WindowPlace;
 use claims::walks::Walk;
-use inheriting::offsets::unmade_offsets;
 use judging::entries::check_entry;
 use marking::marks::symbol_set;
 use matching::windows::next_window;
 use refusals::refusals::Refusal;
-use rows::places::no_positions;
 use sets::symbols::list_symbols;
 use shapes::shapes::Shape;
-use shapes::tables::{no_entries, no_symbols};
+use shapes::tables::table;
 
 // Where the windows end, and how many of them stand as found; or the first bad record.
 #[derive(Clone, Copy)]
@@ -96,12 +94,12 @@ pub fn check_windows(text: &[u8], pattern: &[u8], s: Shape, listing: &[u8]) -> W
     ensures { WindowsWalked (asked text.now pattern.now s) listing.now result }
 {
     let set = symbol_set(pattern);
-    let mut listed = no_symbols();
+    let mut listed = table(0);
     let d = list_symbols(set, &mut listed);
-    let mut given = no_entries();
-    let mut offsets = unmade_offsets();
-    let mut selves = no_positions();
-    let mut tops = no_positions();
+    let mut given = table(0);
+    let mut offsets = table(0);
+    let mut selves = table(0);
+    let mut tops = table(0);
     walk_windows(
         text,
         pattern,

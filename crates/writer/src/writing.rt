@@ -17,8 +17,8 @@ use listing::records::{Record, write_record};
 use passes::found::write_rows;
 use passes::strips::write_strips;
 use placed::placing::Placing;
-use rows::places::no_positions;
 use shapes::shapes::Shape;
+use shapes::tables::table;
 
 // The records of all windows, from the listing's first byte on; the place after them. First those of the found ones in
 // their order, then those of the refused ones strip by strip.
@@ -42,9 +42,9 @@ fn write_windows(
     ensures listing_after { listing.new ≡ written listing.old 0
         (window_bytes text.now (placed pattern.now g) s) }
 {
-    let mut offsets = no_positions();
+    let mut offsets = table(0);
     list_offsets(pattern, g, s.columns, s.width, listed, first, &mut offsets);
-    let mut heads = no_positions();
+    let mut heads = table(0);
     let end = write_rows(
         text, pattern, g, s, listed, &offsets, flags, &mut heads, listing,
     );

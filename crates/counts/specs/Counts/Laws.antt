@@ -175,9 +175,12 @@ tracks_start text s top left o k = rw (cells_none text s.columns left s.width to
 
 -- ---- the buffer, window by window
 
--- a window's place lies in the buffer
-place_lt : (across down top left : ℕ) → left < across → top < down → top * across + left < down * across
+-- a window's place is small, and lies in the buffer
+pub place_lt : (across down top left : ℕ) → left < across → top < down → top * across + left < down * across
 place_lt across down top left h k = omega (arith, mul-le-mul_right across k, suc-mul top across)
+
+pub windows_small : (s : Shape) (cells : ℕ) → ShapeOf s cells → down s * across s ≤ 255 * 255
+windows_small s cells v = product_le (down s) (across s) 255 255 (omega arith) (omega arith)
 
 -- the count of the window that the occurrences track, at its place
 pub count_at : (text : List ℕ) (s : Shape) (top left : ℕ) (o : Occurrences) → left < across s

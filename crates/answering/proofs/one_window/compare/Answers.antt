@@ -12,7 +12,7 @@ first_end-end-requires c = (
   c.requires.0,
   c.requires.1,
   c.first_places.ensures,
-  c.no_positions-last.ensures,
+  c.table-last.ensures,
 )
 
 pub mismatch_between-verdict-requires : goal.mismatch_between-verdict-requires
@@ -37,8 +37,8 @@ match_columns-requires c = (
     places = c.first_places.ensures;
     clear = end_past _ _ _ _ _ c.first_end-end.ensures c.if-end-n.false;
   },
-  c.no_images-f.ensures,
-  c.no_images-g.ensures,
+  c.table-f.ensures,
+  c.table-g.ensures,
 )
 
 pub returns : goal.returns

@@ -7,11 +7,11 @@ use Rattle.counting.proofs.count.count_laid.Goals as goal
 
 pub read_pattern-symbols-requires : goal.read_pattern-symbols-requires
 read_pattern-symbols-requires c =
-    (zeros_long _ c.no_positions-first.ensures, zeros_long _ c.no_symbols-listed.ensures, cells_some _ _ _ c.requires.shape c.requires.size)
+    (zeros_long _ c.table-first.ensures, zeros_long _ c.table-listed.ensures, cells_some _ _ _ c.requires.shape c.requires.size)
 
 pub count_flagged-requires : goal.count_flagged-requires
 count_flagged-requires c =
-    (c.requires, c.read_pattern-symbols.ensures.value, c.read_pattern-symbols.ensures.first_places, own_unmade _ _ _ _ _ c.no_positions-selves.ensures c.no_positions-earlies.ensures)
+    (c.requires, c.read_pattern-symbols.ensures.value, c.read_pattern-symbols.ensures.first_places, own_unmade _ _ _ _ _ c.table-selves.ensures c.table-earlies.ensures)
 
 pub returns : goal.returns
 returns c = record { flags_after = c.count_flagged.ensures.flags_after; totalled = c.count_flagged.ensures.totalled }

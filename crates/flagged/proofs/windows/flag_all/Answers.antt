@@ -11,7 +11,6 @@ use Rattle.sweep.specs.Sweep.Runs.{cells_some}
 use Rattle.flags.specs.Flags.Laws.{cells_few}
 use Rattle.flagged.specs.Steps.{counts_there, counts_long, counts_over, flags_over, links_over, marks_over}
 use Rattle.counts.proofs.counts.distinct_counts.Reads as distinct_counts_reads
-use Rattle.alike.proofs.pairs.no_offsets.Reads as no_offsets_reads
 use Rattle.flagged.proofs.windows.flag_all.Goals as goal
 
 pub alike_pairs-requires : goal.alike_pairs-requires
@@ -22,7 +21,7 @@ alike_pairs-requires c =
       omega arith,
       omega arith,
       cells_few _ _ _ v r.size,
-      pairs_none _ _ _ _ _ (cells_some _ _ _ v r.size) (omega arith) c.no_offsets-earlier.ensures c.no_offsets-later.ensures,
+      pairs_none _ _ _ _ _ (cells_some _ _ _ v r.size) (omega arith) c.table-earlier.ensures c.table-later.ensures,
     )
 
 pub flag_windows-requires : goal.flag_windows-requires

@@ -52,12 +52,9 @@ overflow_add-down c = omega (arith, c.requires.0.room.shape)
 pub overflow_sub-down : goal.overflow_sub-down
 overflow_sub-down c = omega (arith, c.requires.0.room.shape)
 
-pub no_positions-last-requires : goal.no_positions-last-requires
-no_positions-last-requires c = tt
-
 pub loop-top-init : goal.loop-top-init
 loop-top-init c =
-    swept_first _ _ _ _ _ _ _ c.requires.0 c.requires.2 _ _ _ _ c.requires.1 (older_zeros 1 _ (omega arith) c.no_positions-last.ensures)
+    swept_first _ _ _ _ _ _ _ c.requires.0 c.requires.2 _ _ _ _ c.requires.1 (older_zeros 1 _ (omega arith) c.table-last.ensures)
 
 pub overflow_mul-k : goal.overflow_mul-k
 overflow_mul-k c = omega (arith, place_small c)

@@ -26,11 +26,11 @@ bytes c k = omega (arith, c.type_inv.pattern k)
 -- the symbols listed are as many as the list has room for
 listed_inside : (c : After-truth_outcome-judged) → c.read_pattern-symbols.result ≤ length c.read_pattern-symbols.new.listed
 listed_inside c =
-    front_inside _ (bytes c) _ _ _ c.read_pattern-symbols.ensures.value c.read_pattern-symbols.ensures.listed_after (zeros_long _ c.no_symbols-listed.ensures)
+    front_inside _ (bytes c) _ _ _ c.read_pattern-symbols.ensures.value c.read_pattern-symbols.ensures.listed_after (zeros_long _ c.table-listed.ensures)
 
 pub read_pattern-symbols-requires : goal.read_pattern-symbols-requires
 read_pattern-symbols-requires c =
-    (zeros_long _ c.no_positions-first.ensures, zeros_long _ c.no_symbols-listed.ensures, cells_some c.args.s _ _ c.requires.0.shape c.requires.0.size)
+    (zeros_long _ c.table-first.ensures, zeros_long _ c.table-listed.ensures, cells_some c.args.s _ _ c.requires.0.shape c.requires.0.size)
 
 pub truth_outcome-judged-requires : goal.truth_outcome-judged-requires
 truth_outcome-judged-requires c = (
@@ -38,7 +38,7 @@ truth_outcome-judged-requires c = (
     shape = c.requires.0.shape;
     cells = c.requires.0.size;
     places = c.read_pattern-symbols.ensures.first_places;
-    owns = own_unmade _ _ _ _ _ c.no_positions-selves.ensures c.no_positions-earlies.ensures;
+    owns = own_unmade _ _ _ _ _ c.table-selves.ensures c.table-earlies.ensures;
   },
   c.requires.1,
 )

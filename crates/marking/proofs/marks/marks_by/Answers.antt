@@ -5,11 +5,8 @@ use Rattle.theory.specs.Older.Laws.{zeros_long}
 use Rattle.sets.specs.Symbols.Marking.{below_none, below_more, below_all}
 use Rattle.marking.proofs.marks.marks_by.Goals as goal
 
-pub no_symbols-marks-requires : goal.no_symbols-marks-requires
-no_symbols-marks-requires c = tt
-
 pub loop-v-init : goal.loop-v-init
-loop-v-init c = below_none _ _ (zeros_long _ c.no_symbols-marks.ensures)
+loop-v-init c = below_none _ _ (zeros_long _ c.table-marks.ensures)
 
 pub mark_at-requires : goal.mark_at-requires
 mark_at-requires c = tt

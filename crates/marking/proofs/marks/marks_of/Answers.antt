@@ -13,11 +13,8 @@ byte : (c : After-shared_slice_known-in-loop-i-1) (k : ℕ)
     → get_or c.args.pattern.now k 0 < 256
 byte c k = omega (arith, c.type_inv.pattern k)
 
-pub no_symbols-marks-requires : goal.no_symbols-marks-requires
-no_symbols-marks-requires c = tt
-
 pub loop-i-init : goal.loop-i-init
-loop-i-init c = marks_none c.args.pattern.now _ c.no_symbols-marks.ensures
+loop-i-init c = marks_none c.args.pattern.now _ c.table-marks.ensures
 
 pub overflow_cast-v : goal.overflow_cast-v
 overflow_cast-v c = omega (arith, byte c c.loop-i.i, byte c 0)

@@ -78,7 +78,7 @@ loop-top-init c = (
   omega arith,
   c.requires.1,
   run_first _ _ _ _ _ _ _ c.requires.1 c.requires.2 _
-      (older_zeros 1 _ (omega arith) c.no_positions-last.ensures),
+      (older_zeros 1 _ (omega arith) c.table-last.ensures),
   column_none _ _ _ _ _ c.requires.4,
   column_refused_none _
       _ _ _ _ _,

@@ -3,8 +3,10 @@
 -- Assumes nothing.
 use native.Mathlib.Omega.{arith}
 use Rattle.printing.specs.Lines.Front.{lines_front}
+use Rattle.program.proofs.Room.{long}
 use Rattle.program.proofs.program.listed_output.Goals as goal
 
 pub returns : goal.returns
 returns c =
-    lines_front _ _ _ _ c.requires.0 (omega (arith, c.requires.1, c.output_buffer-bytes.ensures)) c.write_lines-length.ensures
+    lines_front _ _ _ _ c.requires.0 (omega (arith, c.requires.1, long _ _ c.table-bytes.ensures))
+    c.write_lines-length.ensures

@@ -4,6 +4,7 @@
 use mathlib.Core.Path.{sym}
 use native.Mathlib.Omega.{arith}
 use lib.Seq.{length-take-le}
+use Rattle.program.proofs.Room.{long}
 use Rattle.program.specs.Program.Searched.{Ran, ran, refused_output, size_inside, printable, listed_output}
 use Rattle.program.proofs.program.searched_output.Goals as goal
 use Rattle.program.proofs.program.searched_output.Goals.{After-search-answer}
@@ -12,8 +13,8 @@ has_run : (s : After-search-answer) → Ran s.args.input.now s.search-answer.res
 has_run s =
     ran s.args.input.now _ _ _ s.requires
     (λ k. omega (arith, s.type_inv.input k))
-    s.entry_buffer-links.ensures s.entry_buffer-counts.ensures
-    s.flag_buffer-flags.ensures s.listing_buffer-listing.ensures s.search-answer.ensures.listing_after
+    (long _ _ s.table-links.ensures) (long _ _ s.table-counts.ensures) (long _ _ s.table-flags.ensures)
+    (long _ _ s.table-listing.ensures) s.search-answer.ensures.listing_after
 
 pub slice_bounds-listing-end : goal.slice_bounds-listing-end
 slice_bounds-listing-end c = size_inside (has_run (goal.at.slice_bounds-listing-end c).After-search-answer) _ _ _ c.in-Listed.is

@@ -29,15 +29,15 @@ bytes c k =
 -- the symbols listed are as many as the list has room for
 symbols_inside : (c : After-count_flagged-totals) → c.read_pattern-symbols.result ≤ length c.read_pattern-symbols.new.listed
 symbols_inside c =
-    front_inside _ (bytes c) _ _ _ c.read_pattern-symbols.ensures.value c.read_pattern-symbols.ensures.listed_after (zeros_long _ c.no_symbols-listed.ensures)
+    front_inside _ (bytes c) _ _ _ c.read_pattern-symbols.ensures.value c.read_pattern-symbols.ensures.listed_after (zeros_long _ c.table-listed.ensures)
 
 pub read_pattern-symbols-requires : goal.read_pattern-symbols-requires
 read_pattern-symbols-requires c =
-    (zeros_long _ c.no_positions-first.ensures, zeros_long _ c.no_symbols-listed.ensures, cells_some _ _ _ c.requires.shape c.requires.size)
+    (zeros_long _ c.table-first.ensures, zeros_long _ c.table-listed.ensures, cells_some _ _ _ c.requires.shape c.requires.size)
 
 pub count_flagged-totals-requires : goal.count_flagged-totals-requires
 count_flagged-totals-requires c =
-    (c.requires, c.read_pattern-symbols.ensures.value, c.read_pattern-symbols.ensures.first_places, own_unmade _ _ _ _ _ c.no_positions-selves.ensures c.no_positions-earlies.ensures)
+    (c.requires, c.read_pattern-symbols.ensures.value, c.read_pattern-symbols.ensures.first_places, own_unmade _ _ _ _ _ c.table-selves.ensures c.table-earlies.ensures)
 
 pub slice_bounds-listed-end : goal.slice_bounds-listed-end
 slice_bounds-listed-end c = symbols_inside (goal.at.slice_bounds-listed-end c).After-count_flagged-totals

@@ -18,7 +18,7 @@ bounds-earlies-0 c = omega (arith, c.requires.3)
 
 pub loop-top-init : goal.loop-top-init
 loop-top-init c =
-    own_first _ _ _ _ c.requires.0 c.requires.4 c.requires.5 _ c.args.selves.now c.args.earlies.now (older_zeros 1 _ (omega arith) c.no_positions-last.ensures) c.requires.2 c.requires.3
+    own_first _ _ _ _ c.requires.0 c.requires.4 c.requires.5 _ c.args.selves.now c.args.earlies.now (older_zeros 1 _ (omega arith) c.table-last.ensures) c.requires.2 c.requires.3
 
 pub next_own-r-requires : goal.next_own-r-requires
 next_own-r-requires c =

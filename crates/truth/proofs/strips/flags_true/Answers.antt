@@ -33,7 +33,7 @@ alike_pairs-requires c =
       omega arith,
       omega arith,
       cells_few _ _ _ v c.requires.0.cells,
-      pairs_none _ _ _ _ _ (cells_some _ _ _ v c.requires.0.cells) (omega arith) c.no_offsets-earlier.ensures c.no_offsets-later.ensures,
+      pairs_none _ _ _ _ _ (cells_some _ _ _ v c.requires.0.cells) (omega arith) c.table-earlier.ensures c.table-later.ensures,
     )
 
 pub loop-left-init : goal.loop-left-init

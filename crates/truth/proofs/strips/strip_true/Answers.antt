@@ -66,7 +66,7 @@ loop-top-init c =
     let a = c.args in (
       omega arith,
       c.requires.0,
-      run_first _ _ _ _ _ _ _ c.requires.0 c.requires.1 _ (older_zeros 1 _ (omega arith) c.no_positions-last.ensures),
+      run_first _ _ _ _ _ _ _ c.requires.0 c.requires.1 _ (older_zeros 1 _ (omega arith) c.table-last.ensures),
       c.requires.4,
       true_none a.text.now (placed a.pattern.now a.g) a.s a.left a.flags.now,
     )

@@ -12,12 +12,12 @@ use Rattle.verify.proofs.windows.check_windows.Goals as goal
 
 pub slice_bounds-listed-end : goal.slice_bounds-listed-end
 slice_bounds-listed-end c =
-    listed_inside _ _ _ _ c.list_symbols-d.ensures.value c.list_symbols-d.ensures.listed_after (zeros_long _ c.no_symbols-listed.ensures)
+    listed_inside _ _ _ _ c.list_symbols-d.ensures.value c.list_symbols-d.ensures.listed_after (zeros_long _ c.table-listed.ensures)
 
 pub slice_bounds-walk_windows-end : goal.slice_bounds-walk_windows-end
 slice_bounds-walk_windows-end c =
     sym (length-take-le _ _
-    (listed_inside _ _ _ _ c.list_symbols-d.ensures.value c.list_symbols-d.ensures.listed_after (zeros_long _ c.no_symbols-listed.ensures)))
+    (listed_inside _ _ _ _ c.list_symbols-d.ensures.value c.list_symbols-d.ensures.listed_after (zeros_long _ c.table-listed.ensures)))
 
 pub walk_windows-requires : goal.walk_windows-requires
 walk_windows-requires c =
@@ -26,7 +26,7 @@ walk_windows-requires c =
       c.requires.1,
       listed-take _ _ _ _ c.list_symbols-d.ensures.value c.list_symbols-d.ensures.listed_after
           ∙ members-set_of_symbols _ _ c.symbol_set-set.ensures,
-      older_zeros _ _ (omega arith) c.no_entries-given.ensures,
+      older_zeros _ _ (omega arith) c.table-given.ensures,
       tables_none _ _ _ _ _ _ _ _
           (record {
             cells = c.requires.1;
@@ -35,6 +35,6 @@ walk_windows-requires c =
             height_le = sides.height_good.small;
             width_le = sides.width_good.small;
           })
-          sides.columns_good.small c.unmade_offsets-offsets.ensures
-          c.no_positions-selves.ensures c.no_positions-tops.ensures,
+          sides.columns_good.small c.table-offsets.ensures
+          c.table-selves.ensures c.table-tops.ensures,
     )

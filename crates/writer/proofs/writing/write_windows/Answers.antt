@@ -21,7 +21,7 @@ list_offsets-requires c = let a = c.args in (
   pattern_fits a.text.now (placed a.pattern.now a.g) a.s a.flags.now c.requires.0,
   c.requires.1,
   c.requires.2,
-  zeros_long _ c.no_positions-offsets.ensures,
+  zeros_long _ c.table-offsets.ensures,
 )
 
 pub write_rows-end-requires : goal.write_rows-end-requires
@@ -29,7 +29,7 @@ write_rows-end-requires c =
     let a = c.args in (
       c.requires.0,
       c.list_offsets.ensures,
-      zeros_long _ c.no_positions-heads.ensures,
+      zeros_long _ c.table-heads.ensures,
       omega (arith, c.requires.4, pieces_length a.text.now (placed a.pattern.now a.g) a.s),
     )
 

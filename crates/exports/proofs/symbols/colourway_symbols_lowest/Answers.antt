@@ -1,8 +1,0 @@
--- `lowest` answers it of the set that the words hold.
--- Assumes nothing.
-use mathlib.Core.Path.{◌∙◌, ap}
-use Rattle.sets.specs.Symbols.{lowest_of}
-use Rattle.exports.proofs.symbols.colourway_symbols_lowest.Goals as goal
-
-pub returns : goal.returns
-returns c = c.lowest.ensures ∙ ap lowest_of c.symbols_in.ensures
