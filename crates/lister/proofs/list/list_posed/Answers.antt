@@ -1,7 +1,7 @@
 -- `list::list_posed` meets its contract: flags that are not refused by 16 are the truth (`flags_flagged`), and their
 -- totals the windows' (`totalled`).
 -- Assumes nothing.
-use Rattle.std.proofs.Common.{◌≡◌, Err, refl, ◌∙◌, rules}
+use Rattle.std.proofs.Common.{◌∙◌}
 use Rattle.passes.specs.Windows.{Flagged}
 use Rattle.lister.specs.Steps.{flags_flagged}
 use Rattle.totals.specs.Totalled.{totalled}
@@ -23,11 +23,6 @@ list_flagged-requires g c =
           ∙ totalled _ _ c.args.s _ f.flags_room f.flags_are _ c.read_pattern-known.result.are.count_is,
       c.truth_outcome.ensures.own_so_far,
     )
-
-pub returns-in_err-truth_outcome : goal.returns-in_err-truth_outcome
-returns-in_err-truth_outcome g c =
-    let is : c.from_residual.result ≡ Err c.in_err-truth_outcome.field-0.0 = search rules in
-    rw (is, ← c.read_pattern-known.ensures, ← c.in_err-truth_outcome.ensures.judged) refl
 
 pub returns : goal.returns
 returns g c =
