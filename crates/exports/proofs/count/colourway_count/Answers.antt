@@ -10,7 +10,7 @@ use Rattle.exports.proofs.count.colourway_count.Goals as goal
 
 pub returns : goal.returns
 returns c =
-    let e = c.count_windows-answer.ensures.flags_after in record {
+    let e = c.count_windows-answer.ensures.answer in record {
       number = c.answer_number-number.ensures ∙ number_said _ _ ∙ ap (λ (d : Counted). said_number d.said) e;
       totals_after = c.searched_totals.ensures ∙ ap (λ (d : Counted). values_by 2 d.said c.args.totals.now) e;
       buffers_after = ap (λ (d : Counted). d.work) e;

@@ -9,7 +9,7 @@ use Rattle.exports.proofs.list.colourway_list.Goals as goal
 
 pub returns : goal.returns
 returns c =
-    let e = c.list_windows-answer.ensures.listing_after in record {
+    let e = c.list_windows-answer.ensures.answer in record {
       number = c.answer_number-number.ensures ∙ number_said _ _ ∙ ap (λ (d : Filled). said_number d.said) e;
       totals_after = c.searched_totals.ensures ∙ ap (λ (d : Filled). values_by 2 d.said c.args.totals.now) e;
       listing_after = ap (λ (d : Filled). d.buffer) e;

@@ -10,7 +10,7 @@ use Rattle.exports.proofs.scaled_search.colourway_search_scaled.Goals as goal
 
 pub returns : goal.returns
 returns c =
-    let e = c.search_scaled-answer.ensures.listing_after in record {
+    let e = c.search_scaled-answer.ensures.answer in record {
       number = c.answer_number-number.ensures ∙ number_said _ _ ∙ ap (λ (d : Done). said_number d.said) e;
       totals_after = c.searched_totals.ensures ∙ ap (λ (d : Done). values_by 2 d.said c.args.totals.now) e;
       lent_after = ap (λ (d : Done). d.lent) e;
