@@ -5,18 +5,17 @@ use Rattle.std.proofs.Math.Path.{refl}
 use Rattle.std.proofs.Common.{sym, mul-le-mul_right, arith}
 use mathlib.Core.List.{List, []}
 use Rattle.theory.specs.Test.Laws.{says_true, is_true}
-use Rattle.theory.specs.Match.{Answer, matched, mismatched}
-use Rattle.refusals.specs.Said.{accepts, refuses, check, outcome_said, said_values}
-use Rattle.refusals.specs.Said.Laws.{then_stopped, then_both, check_true}
+use Rattle.refusals.specs.Said.{accepts, refuses, check, said_values}
+use Rattle.refusals.specs.Said.Laws.{then_both, check_true}
 use Rattle.shapes.specs.Questions.{Question, shape_said, Posed}
 use Rattle.shapes.specs.Questions.Laws.{posed, posed_said}
 use Rattle.shapes.specs.Shapes.{corner_inside_test}
 use Rattle.shapes.specs.Shapes.Laws.{corner_inside_lem, product_le}
-use Rattle.refusals.specs.declared.refusals.Refusal.{Refusal}
-use Rattle.refusals.specs.declared.refusals.Outcome.{Outcome}
-use Rattle.refusals.specs.declared.refusals.Outcome.TheVariants.{Refused}
 use Rattle.cells.specs.declared.windows.WindowPlace.{WindowPlace}
-use Rattle.matching.specs.Compare.{CornerIn, verdict_said, verdict_of, answer_in, place_said, window_said, Placed}
+use Rattle.matching.specs.Compare.{CornerIn, verdict_said, verdict_in, place_said, window_said}
+use Rattle.view.specs.Places.{Placed}
+use Rattle.matching.specs.declared.compare.Verdict.{Verdict}
+use Rattle.matching.specs.declared.compare.Verdict.TheVariants.{Match, Mismatch}
 
 -- the window of a question's size at a corner
 abbrev pub place_of : Question → ℕ → ℕ → WindowPlace
@@ -30,12 +29,6 @@ place_of q row column =
     }
 
 module _ (q : Question) (row column : ℕ) where
-  -- each number where its test fails and the earlier ones pass
-  pub place_stopped : (o : Outcome) (why : Refusal) → o ≡ Refused why → outcome_said o ≡ shape_said q
-      → outcome_said o ≡ place_said q row column
-  unfolding place_said
-  place_stopped o why e d = then_stopped o why (shape_said q) _ e d
-
   module _ (shape : shape_said q ≡ accepts []) where
     pub place_refused : corner_inside_test q.text.rows q.text.columns q.pattern.rows q.pattern.columns row
         column ≡ false → refuses 5 [] ≡ place_said q row column
@@ -98,15 +91,15 @@ module _ (q : Question) (row column : ℕ) where
   pub window_accepted_iff : ((values : List ℕ) × (window_said q row column ≡ accepts values)) ↔ Askable
   unfolding window_said
   window_accepted_iff = (
-    (λ e. let a = then_both (place_said q row column) (verdict_said (verdict_of (answer_in q row column))) e.0 e.1 in
+    (λ e. let a = then_both (place_said q row column) (verdict_said (verdict_in q row column)) e.0 e.1 in
         place_passed a.0.0 a.0.1),
     (λ a. (
-      said_values (verdict_said (verdict_of (answer_in q row column))),
+      said_values (verdict_said (verdict_in q row column)),
       rw (place_passes a)
-          (answered (answer_in q row column)),
+          (answered (verdict_in q row column)),
     )),
   )
     where
-      answered : (a : Answer) → verdict_said (verdict_of a) ≡ accepts (said_values (verdict_said (verdict_of a)))
-      answered matched = refl
-      answered (mismatched alike earlier later) = refl
+      answered : (v : Verdict) → verdict_said v ≡ accepts (said_values (verdict_said v))
+      answered (Match bijection) = refl
+      answered (Mismatch alike earlier later) = refl

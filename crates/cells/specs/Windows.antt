@@ -2,21 +2,19 @@
 -- width.
 -- Assumes nothing.
 pub mod Laws
-use Rattle.std.specs.Prelude.{List, ℕ, ◌+◌, ◌*◌, ◌/◌, ◌%◌, ltb, length, get_or, take, drop}
+use Rattle.std.specs.Prelude.{List, ℕ, ◌+◌, ◌*◌, ◌/◌, ◌%◌, ltb, length, get_or, take, drop, Option, Some, None}
 use Rattle.theory.specs.Test.{pick}
 use Rattle.theory.specs.Table.{table}
-use Rattle.cells.specs.declared.windows.Cell.{Cell}
-use Rattle.cells.specs.declared.windows.Cell.TheVariants.{Symbol, PastEnd}
 
 -- where cell (i, j) of the window at corner (row, column) lies in the text
 pub place : ℕ → ℕ → ℕ → ℕ → ℕ → ℕ
 place row_width row column i j = (row + i) * row_width + column + j
 
 -- the symbol at that place, or none past the text's end. Which places lie in the window is for the caller to know.
-pub cell_of : List ℕ → ℕ → ℕ → ℕ → ℕ → ℕ → Cell
+pub cell_of : List ℕ → ℕ → ℕ → ℕ → ℕ → ℕ → Option ℕ
 cell_of text row_width row column i j =
-    pick (ltb (place row_width row column i j) (length text)) (Symbol (get_or text (place row_width row column i j) 0))
-    PastEnd
+    pick (ltb (place row_width row column i j) (length text)) (Some (get_or text (place row_width row column i j) 0))
+    None
 
 -- the symbols of a window by position: row by row, each row of width cells
 pub window_at : List ℕ → ℕ → ℕ → ℕ → ℕ → ℕ → ℕ
@@ -36,9 +34,9 @@ pub strip_at : List ℕ → ℕ → ℕ → ℕ → ℕ → ℕ
 strip_at text row_width column width = window_at text row_width 0 column width
 
 -- a read as a number: 256 past the end
-abbrev pub cell_number : Cell → ℕ
-cell_number (Symbol v) = v
-cell_number PastEnd = 256
+abbrev pub cell_number : Option ℕ → ℕ
+cell_number (Some v) = v
+cell_number None = 256
 
 -- the row of window k's corner: windows come row by row, across of them in a row
 abbrev pub corner_row : ℕ → ℕ → ℕ

@@ -3,13 +3,6 @@
 ghost use Rattle.std.specs.Prelude.{◌≡◌, ◌≤◌, ◌<◌};
 ghost use Rattle.cells.specs.Windows.{cell_of, cells_of_row, offset_of};
 
-// What is read at a place: a symbol, or nothing past the text's end.
-#[derive(Clone, Copy)]
-pub enum Cell {
-    Symbol(u8),
-    PastEnd,
-}
-
 // A window of a text: the text's row width, the window's corner and its sides.
 #[derive(Clone, Copy)]
 pub struct WindowPlace {
@@ -28,16 +21,13 @@ pub fn cell_offset(columns: usize, width: usize, p: usize) -> usize
     p / width * columns + p % width
 }
 
-// The symbol in cell (i, j) of the window whose corner is (row, column).
-pub fn window_cell(text: &[u8], row_width: u8, row: u8, column: u8, i: u8, j: u8) -> Cell
+// The symbol in cell (i, j) of the window whose corner is (row, column), or none past the text's end.
+pub fn window_cell(text: &[u8], row_width: u8, row: u8, column: u8, i: u8, j: u8) -> Option<u8>
     ensures { result ≡ cell_of text.now row_width row column i j }
 {
-    let at = (row as usize + i as usize) * (row_width as usize) + column as usize + j as usize;
-    if at < text.len() {
-        Cell::Symbol(text[at])
-    } else {
-        Cell::PastEnd
-    }
+    let down = usize::from(row) + usize::from(i);
+    let at = down * usize::from(row_width) + usize::from(column) + usize::from(j);
+    text.get(at).copied()
 }
 
 // The width cells of a row from a column on, as a part of the text; what lies past the text's end is left out.

@@ -1,12 +1,11 @@
 -- A mismatch's two cells: where they lie in the pattern and in the text, and the code's tests as the definition has
 -- them.
 -- Assumes nothing.
-use Rattle.std.specs.Prelude.{◌≡◌, Bool, true, false, not, List, ℕ, suc, ◌+◌, ◌*◌, ◌≤◌, ◌<◌, eqb, length}
-use Rattle.std.proofs.Common.{sym, ap, suc-mul, mul-le-mul_right, arith}
-use borrow.Author.Tests.{lt-ltb, le-ltb}
+use Rattle.std.proofs.Common.{◌≡◌, Bool, true, false, not, List, ℕ, suc, ◌+◌, ◌*◌, ◌≤◌, ◌<◌, eqb, length, sym, ap}
+use Rattle.std.proofs.Common.{suc-mul, mul-le-mul_right, arith, lt-ltb, le-ltb}
 use Rattle.theory.specs.Test.{both}
 use Rattle.theory.specs.Test.Laws.{lt_tested, both_tested, says_true}
-use Rattle.matching.specs.Compare.{cell_count, Placed}
+use Rattle.view.specs.Places.{cell_count, Placed}
 use Rattle.cells.specs.declared.windows.WindowPlace.{WindowPlace}
 use Rattle.claims.specs.Claims.{cell_inside_test, alike_only_test, true_mismatch_test}
 
@@ -39,12 +38,14 @@ module _ (m w : ℕ → ℕ) (q p a b x y : ℕ) (a_is : a ≡ m q) (b_is : b �
 -- ---- the tests in their order
 
 module _ (side : Bool) (m w : ℕ → ℕ) (height width i j k l : ℕ) where
-  pub earlier_outside : cell_inside_test height width i j ≡ false → false ≡ true_mismatch_test side m w height width i j k l
+  pub earlier_outside : cell_inside_test height width i j ≡ false
+      → false ≡ true_mismatch_test side m w height width i j k l
   unfolding true_mismatch_test
   earlier_outside e = rw e
 
   module _ (first : cell_inside_test height width i j ≡ true) where
-    pub later_outside : cell_inside_test height width k l ≡ false → false ≡ true_mismatch_test side m w height width i j k l
+    pub later_outside : cell_inside_test height width k l ≡ false
+        → false ≡ true_mismatch_test side m w height width i j k l
     unfolding true_mismatch_test
     later_outside e = rw (first, e)
 
@@ -53,7 +54,8 @@ module _ (side : Bool) (m w : ℕ → ℕ) (height width i j k l : ℕ) where
       unfolding true_mismatch_test
       not_in_order h = rw (first, second, le-ltb (i * width + j) (k * width + l) h)
 
-      pub in_order : i * width + j < k * width + l → (r : Bool) → r ≡ alike_only_test side m w (i * width + j) (k * width + l)
+      pub in_order : i * width + j < k * width + l → (r : Bool)
+          → r ≡ alike_only_test side m w (i * width + j) (k * width + l)
           → r ≡ true_mismatch_test side m w height width i j k l
       unfolding true_mismatch_test
       in_order h r e = rw (first, second, lt-ltb (i * width + j) (k * width + l) h) e

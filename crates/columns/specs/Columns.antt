@@ -14,18 +14,17 @@ use Rattle.theory.specs.Table.Laws.{table_is}
 use Rattle.theory.specs.Match.{ends, first_end, image_of, column}
 use Rattle.theory.specs.Match.Even.{Even, even_if, even_swap, even_carries, Image, at, nowhere, image, no_image}
 use Rattle.theory.specs.Match.Images.{image_back}
-use Rattle.cells.specs.declared.windows.WindowPlace.{WindowPlace}
 use Rattle.prefixes.specs.State.{FirstPlaces}
-use Rattle.matching.specs.Compare.{cell_of_pattern, window_of, cell_count, Placed, empty_images}
+use Rattle.matching.specs.Compare.{empty_images}
+use Rattle.matching.specs.Compared.{pattern_seen, window_seen, cells_seen}
+use Rattle.matching.specs.declared.compared.Compared.{Compared}
 
 -- What the inner functions' contracts cite.
 
 -- the pattern matches the window, and first has the first places of its symbols
-pub record MatchAt (text : List ℕ) (v : WindowPlace) (pattern first : List ℕ) : Type 0 where
-  pub placed : Placed text v
-  pub cells : length pattern ≡ cell_count v
-  pub places : FirstPlaces (cell_of_pattern pattern) (length pattern) first
-  pub clear : cell_count v ≤ first_end (cell_of_pattern pattern) (window_of text v) (cell_count v)
+pub record MatchAt (c : Compared) (first : List ℕ) : Type 0 where
+  pub places : FirstPlaces (pattern_seen c) (length c.pattern.now) first
+  pub clear : cells_seen c ≤ first_end (pattern_seen c) (window_seen c) (cells_seen c)
 
 -- l has the images of the symbols whose key is below k, and none else
 pub record ColumnTo (m w : ℕ → ℕ) (n k : ℕ) (key : ℕ → ℕ) (l : List ℕ) : Type 0 where
@@ -149,25 +148,25 @@ module _ (m w : ℕ → ℕ) (n a : ℕ) (f g : List ℕ) (small : a < 256) (her
 
 -- ---- what the code asks of a symbol
 
-module _ (text : List ℕ) (v : WindowPlace) (pattern first : List ℕ) (asked : MatchAt text v pattern first) where
-  pub match_even : Even (cell_of_pattern pattern) (window_of text v) (cell_count v)
+module _ (c : Compared) (first : List ℕ) (asked : MatchAt c first) where
+  pub match_even : Even (pattern_seen c) (window_seen c) (cells_seen c)
   unfolding first_end
   match_even =
-      let f = first_spec (ends (cell_of_pattern pattern) (window_of text v)) (cell_count v) in
-      even_if _ _ (cell_count v) (λ k h. f.before k (omega (arith, asked.clear)))
+      let f = first_spec (ends (pattern_seen c) (window_seen c)) (cells_seen c) in
+      even_if _ _ (cells_seen c) (λ k h. f.before k (omega (arith, asked.clear)))
 
   -- a symbol whose first place lies past the pattern, or has another symbol, is not in the pattern
   module _ (a : ℕ) where
-    stands : (p : ℕ) → p < cell_count v → cell_of_pattern pattern p ≡ a
-        → (get_or first a 0 < length pattern) × (cell_of_pattern pattern (get_or first a 0) ≡ a)
+    stands : (p : ℕ) → p < cells_seen c → pattern_seen c p ≡ a
+        → (get_or first a 0 < length c.pattern.now) × (pattern_seen c (get_or first a 0) ≡ a)
     stands p h e =
-        let c = asked.places.each p (omega (arith, asked.cells)) in
-        let d : (get_or first a 0 ≤ p) × (cell_of_pattern pattern (get_or first a 0) ≡ a) = rw e at c in
-        (omega (arith, d.0, asked.cells), d.1)
+        let e₁ = asked.places.each p (omega (arith, c.fitting)) in
+        let d : (get_or first a 0 ≤ p) × (pattern_seen c (get_or first a 0) ≡ a) = rw e at e₁ in
+        (omega (arith, d.0, c.fitting), d.1)
 
-    pub place_past : length pattern ≤ get_or first a 0 → (p : ℕ) → p < cell_count v → cell_of_pattern pattern p ≡ a → ⊥
+    pub place_past : length c.pattern.now ≤ get_or first a 0 → (p : ℕ) → p < cells_seen c → pattern_seen c p ≡ a → ⊥
     place_past h p hp e = omega (arith, (stands p hp e).0)
 
-    pub place_other : (cell_of_pattern pattern (get_or first a 0) ≡ a → ⊥) → (p : ℕ) → p < cell_count v
-        → cell_of_pattern pattern p ≡ a → ⊥
+    pub place_other : (pattern_seen c (get_or first a 0) ≡ a → ⊥) → (p : ℕ) → p < cells_seen c
+        → pattern_seen c p ≡ a → ⊥
     place_other h p hp e = h (stands p hp e).1

@@ -1,64 +1,44 @@
 // The columns of a match, from the first place of each symbol.
 ghost use Rattle.std.specs.Prelude.{◌≡◌, ◌+◌, ◌<◌};
 ghost use Rattle.theory.specs.Match.{column};
-ghost use Rattle.matching.specs.Compare.{cell_of_pattern, window_of, cell_count, empty_images};
+ghost use Rattle.mapping.specs.Bijections.{empty_bijection};
+ghost use Rattle.matching.specs.Compared.{pattern_seen, window_seen, cells_seen};
 ghost use Rattle.columns.specs.Columns.{MatchAt, PairsTo};
 
-use cells::windows::WindowPlace;
-use matching::compare::symbol_at;
+use mapping::bijections::Bijection;
+use matching::compared::Compared;
 
-// A column without images.
-pub fn no_images() -> [u16; 256]
-    ensures { result ≡ empty_images }
-{
-    [256u16; 256]
-}
-
-// The symbol a of the pattern, if it is one, is paired with the window's symbol at a's first place. The columns come
+// The symbol a of the pattern, if it is one, is paired with the window's symbol at a's first place. The bijection comes
 // with the pairs of the symbols below a.
-fn pair_symbol(
-    text: &[u8],
-    v: WindowPlace,
-    pattern: &[u8],
-    first: &[usize; 256],
-    forward: &mut [u16; 256],
-    backward: &mut [u16; 256],
-    a: usize,
-)
-    requires { MatchAt text.now v pattern.now first.now × (a < 256)
-        × PairsTo (cell_of_pattern pattern.now) (window_of text.now v) (cell_count v) a forward.old backward.old }
-    ensures { PairsTo (cell_of_pattern pattern.now) (window_of text.now v) (cell_count v) (a + 1)
-        forward.new backward.new }
+fn pair_symbol(c: Compared, first: &[usize; 256], pairs: &mut Bijection, a: usize)
+    requires { MatchAt c first.now × (a < 256)
+        × PairsTo (pattern_seen c) (window_seen c) (cells_seen c) a pairs.old.forward pairs.old.backward }
+    ensures { PairsTo (pattern_seen c.entry) (window_seen c.entry) (cells_seen c.entry) (a + 1)
+        pairs.new.forward pairs.new.backward }
 {
     let p = first[a];
-    if pattern.len() <= p {
+    if c.pattern.len() <= p {
         return;
     }
-    let b = usize::from(pattern[p]);
+    let b = usize::from(c.pattern[p]);
     if b != a {
         return;
     }
-    let x = symbol_at(text, v, p);
-    forward[a] = u16::from(x);
-    backward[usize::from(x)] = a as u16;
+    let x = c.window.symbol(p);
+    // A symbol, by `as`: `try_from` would have a way out that no value takes.
+    pairs.forward[a] = u16::from(x);
+    pairs.backward[usize::from(x)] = a as u16;
 }
 
-// The columns of a match, which come empty, from the first place of each symbol.
-pub fn match_columns(
-    text: &[u8],
-    v: WindowPlace,
-    pattern: &[u8],
-    first: &[usize; 256],
-    forward: &mut [u16; 256],
-    backward: &mut [u16; 256],
-)
-    requires { MatchAt text.now v pattern.now first.now × (forward.old ≡ empty_images) × (backward.old ≡ empty_images) }
-    ensures forward_after { forward.new
-        ≡ column (cell_of_pattern pattern.now) (window_of text.now v) (cell_count v) }
-    ensures backward_after { backward.new
-        ≡ column (window_of text.now v) (cell_of_pattern pattern.now) (cell_count v) }
+// The columns of a match, from the first place of each symbol; the bijection comes empty.
+pub fn match_columns(c: Compared, first: &[usize; 256], pairs: &mut Bijection)
+    requires { MatchAt c first.now × (pairs.old ≡ empty_bijection) }
+    ensures forward_after { pairs.new.forward
+        ≡ column (pattern_seen c.entry) (window_seen c.entry) (cells_seen c.entry) }
+    ensures backward_after { pairs.new.backward
+        ≡ column (window_seen c.entry) (pattern_seen c.entry) (cells_seen c.entry) }
 {
     for a in 0..256 {
-        pair_symbol(text, v, pattern, first, forward, backward, a);
+        pair_symbol(c, first, pairs, a);
     }
 }

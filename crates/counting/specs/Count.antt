@@ -1,30 +1,25 @@
--- What Count says and leaves: refused before it begins, everything as it was; else found, refused and the length, with
+-- What Count says and leaves: refused before it begins, everything as it was; else what the windows add up to, with
 -- links, counts and flags written.
 -- Assumes nothing.
-use Rattle.std.specs.Prelude.{◌≡◌, ℕ}
-use Rattle.refusals.specs.Said.{outcome_said}
+use Rattle.std.specs.Prelude.{Ok, Err, ◌≡◌, [], ℕ}
+use Rattle.refusals.specs.Said.{accepts, refusal_said}
 use Rattle.refusals.specs.declared.refusals.Refusal.{Refusal}
-use Rattle.refusals.specs.declared.refusals.Outcome.{Outcome}
-use Rattle.refusals.specs.declared.refusals.Outcome.TheVariants.{Refused as RefusedOutcome}
 use Rattle.shapes.specs.Questions.{Question}
-use Rattle.flags.specs.Flags.{Work, RoomFor, rooms_of, work_after}
-use Rattle.entries.specs.Listing.{found_in, refused_in, needed_length}
+use Rattle.flags.specs.Flags.{Work, rooms_of, work_after}
+use Rattle.entries.specs.Listing.Totals.{totals_in}
+use Rattle.listing.specs.declared.totals.Totals.{Totals}
 use Rattle.rooms.specs.Rooms.{room_said}
-use Rattle.rooms.specs.Rooms.Laws.{room_passes}
 use Rattle.searched.specs.Search.{count_said, count_done, count_of}
-use Rattle.searched.specs.declared.answer.Searched.TheVariants.{Listed, Refused}
 
 module _ (q : Question) (w : Work) where
   -- refused before it begins
-  pub count_stopped : (o : Outcome) (why : Refusal) → o ≡ RefusedOutcome why
-      → outcome_said o ≡ room_said q (rooms_of w)
-      → count_done (Refused why) w ≡ count_of q w
+  pub count_stopped : (why : Refusal) → refusal_said why ≡ room_said q (rooms_of w)
+      → count_done (Err why) w ≡ count_of q w
   unfolding count_of count_said
-  count_stopped o why e d = rw (← d, e)
+  count_stopped why e = rw (← e)
 
   -- else counted
-  pub count_accepts : RoomFor q (rooms_of w) → (found refused size : ℕ) (after : Work) → after ≡ work_after q w
-      → found ≡ found_in q → refused ≡ refused_in q → size ≡ needed_length q
-      → count_done (Listed found refused size) after ≡ count_of q w
+  pub count_accepts : accepts [] ≡ room_said q (rooms_of w) → (totals : Totals ℕ) (after : Work)
+      → after ≡ work_after q w → totals ≡ totals_in q → count_done (Ok totals) after ≡ count_of q w
   unfolding count_of count_said
-  count_accepts room found refused size after e a b c = rw (room_passes q (rooms_of w) room, e, a, b, c)
+  count_accepts good totals after e t = rw (← good, e, t)

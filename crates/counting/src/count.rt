@@ -1,150 +1,90 @@
 // Document 02's R-1, count first: links, counts and flags as the search leaves them, the windows found and refused, and
 // the length that the listing will have.
-ghost use Rattle.std.specs.Prelude.{◌≡◌, length, get_or};
+// Links, counts and flags are lent one by one: in one struct of `&mut` each clause would name them through old and new.
+ghost use Rattle.std.specs.Prelude.{◌≡◌, length};
 ghost use Rattle.theory.specs.Bytes.{Bytes};
-ghost use Rattle.shapes.specs.Questions.{ask, asked};
+ghost use Rattle.shapes.specs.Questions.{asked, question_in};
 ghost use Rattle.shapes.specs.Shapes.{down};
-ghost use Rattle.occurrences.specs.Distinct.{distinct};
-ghost use Rattle.prefixes.specs.State.{FirstPlaces};
 ghost use Rattle.sweep.specs.Sweep.{OwnSoFar};
 ghost use Rattle.flags.specs.Flags.{RoomFor, rooms, working, work_after};
-ghost use Rattle.totals.specs.Totalled.{Totalled};
+ghost use Rattle.entries.specs.Listing.Totals.{totals_in};
 ghost use Rattle.searched.specs.Search.{count_done, count_of};
-ghost use Rattle.placed.specs.Placing.{placed};
 
 use flagged::windows::flag_all;
-use placed::placing::{AS_IT_IS, Placing};
-use refusals::refusals::Outcome;
+use listing::totals::Totals;
+use placed::pattern::Pattern;
+use refusals::refusals::Refusal;
 use rooms::rooms::room_outcome;
-use rows::places::no_positions;
-use searched::answer::Searched;
+use rows::run::FirstEnd;
+use shapes::question::Question;
 use shapes::shapes::Shape;
-use shapes::tables::no_symbols;
-use totals::pattern::read_pattern;
-use totals::totals::{Totals, totals_of};
+use shapes::tables::table;
+use totals::pattern::{Known, read_pattern};
+use totals::totals::totals_of;
 
-// What Count does once nothing is left to refuse, and what the search begins with: the flags, and their totals, where
-// the pattern has so many symbols, with these first places, and own ends as far as they were made. A table that is read
-// for each cell is copied once: what stands in the function's own frame is read without a register for its place.
-pub fn count_flagged(
+// What Count does once nothing is left to refuse, and what the search begins with: the flags, and their totals, with
+// what is known of the pattern, and own ends as far as they were made. A table that is read for each cell is copied
+// once: what stands in the function's own frame is read without a register for its place.
+pub fn count_flagged<P: Pattern>(
     text: &[u8],
-    pattern: &[u8],
-    g: Placing,
+    known: &Known<P>,
     s: Shape,
-    symbols: u16,
-    first: &[usize; 256],
-    selves: &mut [usize; 256],
-    earlies: &mut [usize; 256],
+    own: &mut [FirstEnd; 256],
     links: &mut [u16],
     counts: &mut [u16],
     flags: &mut [u8],
-) -> Totals
-    requires { RoomFor (asked text.now (placed pattern.now g) s)
+) -> Totals<u16>
+    requires { RoomFor (asked text.now (P.cells known.now.pattern) s)
         (rooms (length links.old) (length counts.old) (length flags.old))
-        × (symbols ≡ distinct (placed pattern.now g))
-        × FirstPlaces (λ k. get_or (placed pattern.now g) k 0) (length (placed pattern.now g)) first.now
-        × OwnSoFar (placed pattern.now g) s.width (down s) selves.old earlies.old }
-    ensures flags_after { working links.new counts.new flags.new
-        ≡ work_after (asked text.now (placed pattern.now g) s)
+        × OwnSoFar (P.cells known.now.pattern) s.width (down s) own.old }
+    ensures buffers { working links.new counts.new flags.new
+        ≡ work_after (asked text.now (P.cells known.now.pattern) s)
         (working links.old counts.old flags.old) }
-    ensures totalled { Totalled text.now (placed pattern.now g) s result.found result.refused result.length }
-    ensures own_so_far { OwnSoFar (placed pattern.now g) s.width (down s) selves.new earlies.new }
+    ensures totals { result ≡ totals_in (asked text.now (P.cells known.now.pattern) s) }
+    ensures own_so_far { OwnSoFar (P.cells known.now.pattern) s.width (down s) own.new }
 {
-    let n = (s.rows + 1 - s.height) * (s.columns + 1 - s.width);
-    let places = *first;
-    flag_all(
-        text, pattern, g, &places, selves, earlies, symbols, s, links, counts, flags,
-    );
-    totals_of(pattern, g, symbols, flags, n)
+    let n = s.windows();
+    let pattern = known.pattern;
+    let count = known.count;
+    let first = known.first;
+    flag_all(text, pattern, &first, own, count, s, links, counts, flags);
+    totals_of(count, &flags[..n])
 }
 
 // The same with nothing known of the pattern: what it says by itself is found first.
-pub fn count_laid(
+pub fn count_laid<P: Pattern>(
     text: &[u8],
-    pattern: &[u8],
-    g: Placing,
+    pattern: P,
     s: Shape,
     links: &mut [u16],
     counts: &mut [u16],
     flags: &mut [u8],
-) -> Totals
-    requires { RoomFor (asked text.now (placed pattern.now g) s)
+) -> Totals<u16>
+    requires { RoomFor (asked text.now (P.cells pattern) s)
         (rooms (length links.old) (length counts.old) (length flags.old)) }
-    ensures flags_after { working links.new counts.new flags.new
-        ≡ work_after (asked text.now (placed pattern.now g) s)
+    ensures buffers { working links.new counts.new flags.new
+        ≡ work_after (asked text.now (P.cells pattern) s)
         (working links.old counts.old flags.old) }
-    ensures totalled { Totalled text.now (placed pattern.now g) s result.found result.refused result.length }
+    ensures totals { result ≡ totals_in (asked text.now (P.cells pattern) s) }
 {
-    let mut first = no_positions();
-    let mut listed = no_symbols();
-    let symbols = read_pattern(pattern, g, &mut first, &mut listed);
-    let mut selves = no_positions();
-    let mut earlies = no_positions();
-    count_flagged(
-        text,
-        pattern,
-        g,
-        s,
-        symbols,
-        &first,
-        &mut selves,
-        &mut earlies,
-        links,
-        counts,
-        flags,
-    )
-}
-
-// Count where nothing is left to refuse.
-fn count_posed(
-    text: &[u8],
-    pattern: &[u8],
-    s: Shape,
-    links: &mut [u16],
-    counts: &mut [u16],
-    flags: &mut [u8],
-) -> Searched
-    requires { RoomFor (asked text.now pattern.now s)
-        (rooms (length links.old) (length counts.old) (length flags.old)) }
-    ensures { count_done result (working links.new counts.new flags.new)
-        ≡ count_of (asked text.now pattern.now s)
-        (working links.old counts.old flags.old) }
-{
-    let totals = count_laid(text, pattern, AS_IT_IS, s, links, counts, flags);
-    Searched::Listed {
-        found: totals.found,
-        refused: totals.refused,
-        length: totals.length,
-    }
+    let known = read_pattern(pattern);
+    let mut own = table(FirstEnd { end: 0, earlier: 0 });
+    count_flagged(text, &known, s, &mut own, links, counts, flags)
 }
 
 // Counts the windows of a text that a pattern matches, and those that it does not. Refused by 2, 3, 4, 9, 10; there is
 // no 11, since no listing is lent.
 pub fn count_windows(
-    text: &[u8],
-    rows: usize,
-    columns: usize,
-    pattern: &[u8],
-    height: usize,
-    width: usize,
+    q: Question,
     links: &mut [u16],
     counts: &mut [u16],
     flags: &mut [u8],
-) -> Searched
-    ensures flags_after { count_done result (working links.new counts.new flags.new)
-        ≡ count_of (ask text.now rows columns pattern.now height width)
-        (working links.old counts.old flags.old) }
-    ensures bytes { Bytes text.now × Bytes pattern.now }
+) -> Result<Totals<u16>, Refusal>
+    ensures answer { count_done result (working links.new counts.new flags.new)
+        ≡ count_of (question_in q.entry) (working links.old counts.old flags.old) }
+    ensures bytes { Bytes q.entry.text.now × Bytes q.entry.pattern.now }
 {
-    let s = Shape {
-        rows,
-        columns,
-        height,
-        width,
-    };
-    let outcome = room_outcome(text, pattern, s, links.len(), counts.len(), flags.len());
-    match outcome {
-        Outcome::Refused(why) => Searched::Refused(why),
-        Outcome::Accepted => count_posed(text, pattern, s, links, counts, flags),
-    }
+    room_outcome(q, links.len(), counts.len(), flags.len())?;
+    let totals = count_laid(q.text, q.pattern, q.shape, links, counts, flags);
+    Ok(totals)
 }

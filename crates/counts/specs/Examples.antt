@@ -1,6 +1,6 @@
 -- Document 01's starred drafts of the lower library: the links and the tallies of text 7 7 3 / 3 7 7, by computation.
 -- Assumes nothing.
-use Rattle.std.specs.Prelude.{◌≡◌, List, [], ◌∷◌, ◌++◌, ℕ, ◌+◌, ◌≤◌, length}
+use Rattle.std.specs.Prelude.{Ok, ◌≡◌, List, [], ◌∷◌, ◌++◌, ℕ, ◌+◌, ◌≤◌, length}
 use Rattle.std.proofs.Common.{sym, ◌∙◌, ap, ap₂, arith}
 use Rattle.theory.specs.Test.Laws.{is_true}
 use Rattle.theory.specs.Table.{table}
@@ -10,7 +10,6 @@ use Rattle.cells.specs.Windows.Laws.{example_text, example_cells, example_strips
 use Rattle.occurrences.specs.Distinct.{distinct}
 use Rattle.occurrences.specs.Distinct.Laws.{example_distinct}
 use Rattle.refusals.specs.Said.{accepts, filled}
-use Rattle.refusals.specs.declared.refusals.Outcome.TheVariants.{Accepted}
 use Rattle.shapes.specs.Questions.{four_sides}
 use Rattle.grid.specs.Strips.{links_said, links_of, strip_from}
 use Rattle.grid.specs.Strips.Laws.{links_accepted, links_new}
@@ -44,8 +43,8 @@ links_good left h =
 
 -- ★ 'Its links for c = 2: strip 0 gives 0 1 0 2, strip 1 gives 0 0 2 1', in a buffer of five entries 9
 pub example_links :
-    (links_of example_text (strip_from 2 3 2 0) (9 ∷ 9 ∷ 9 ∷ 9 ∷ 9 ∷ []) ≡ filled Accepted (0 ∷ 1 ∷ 0 ∷ 2 ∷ 9 ∷ []))
-    × (links_of example_text (strip_from 2 3 2 1) (9 ∷ 9 ∷ 9 ∷ 9 ∷ 9 ∷ []) ≡ filled Accepted (0 ∷ 0 ∷ 2 ∷ 1 ∷ 9 ∷ []))
+    (links_of example_text (strip_from 2 3 2 0) (9 ∷ 9 ∷ 9 ∷ 9 ∷ 9 ∷ []) ≡ filled (Ok tt) (0 ∷ 1 ∷ 0 ∷ 2 ∷ 9 ∷ []))
+    × (links_of example_text (strip_from 2 3 2 1) (9 ∷ 9 ∷ 9 ∷ 9 ∷ 9 ∷ []) ≡ filled (Ok tt) (0 ∷ 0 ∷ 2 ∷ 1 ∷ 9 ∷ []))
 example_links = (
   sym (links_new example_text (strip_from 2 3 2 0) (9 ∷ 9 ∷ 9 ∷ 9 ∷ 9 ∷ []) _ (links_good 0 (omega arith))
       (sym (ap (λ (l : List ℕ). l ++ (9 ∷ [])) (links_of_list _ 4 _ example_strips.0 ∙ example_link_values.0)))),
@@ -54,7 +53,7 @@ example_links = (
 )
 
 -- ★ 'Its tallies: 2, 2', in a buffer of three entries 9
-pub example_counts : counts_of example_text (four_sides 2 3 2 2) (9 ∷ 9 ∷ 9 ∷ []) ≡ filled Accepted (2 ∷ 2 ∷ 9 ∷ [])
+pub example_counts : counts_of example_text (four_sides 2 3 2 2) (9 ∷ 9 ∷ 9 ∷ []) ≡ filled (Ok tt) (2 ∷ 2 ∷ 9 ∷ [])
 unfolding table
 example_counts =
     sym (counts_new example_text (four_sides 2 3 2 2) (9 ∷ 9 ∷ 9 ∷ []) _

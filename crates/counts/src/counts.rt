@@ -10,8 +10,8 @@ ghost use Rattle.counts.specs.Counts.{counts_said, counts_of, strip_cells, count
 
 use grid::strips::Strip;
 use occurrences::occurrences::Occurrences;
-use refusals::refusals::{Outcome, Reason, Refusal};
-use shapes::shapes::{Shape, text_outcome};
+use refusals::refusals::{Reason, Refusal};
+use shapes::shapes::Shape;
 
 // The symbols of the strip's topmost window enter.
 fn add_window(occurrences: &mut Occurrences, text: &[u8], s: Shape, left: usize)
@@ -60,11 +60,12 @@ fn strip_counts(
     requires { ShapeOf s (length text.now) × (left < across s) × (down s * across s ≤ length counts.old) }
     ensures { counts.new ≡ stored (count_in text.now s) (λ top. top * across s + left) (down s) counts.old }
 {
-    let width = s.columns + 1 - s.width;
-    let height = s.rows + 1 - s.height;
+    let width = s.across();
+    let height = s.down();
     occurrences.clear();
     add_window(occurrences, text, s, left);
     for top in 0..height {
+        // At most 256, by `as`: `try_from` would have a way out that no value takes.
         counts[top * width + left] = occurrences.size as u16;
         slide(occurrences, text, s, left, top);
     }
@@ -76,7 +77,7 @@ fn all_counts(text: &[u8], s: Shape, counts: &mut [u16])
     ensures { counts.new ≡ stored_rows (count_in text.now s) (λ left top. top * across s + left)
         (across s) (down s) counts.old }
 {
-    let width = s.columns + 1 - s.width;
+    let width = s.across();
     let mut occurrences = Occurrences::none();
     for left in 0..width {
         strip_counts(&mut occurrences, text, s, left, counts);
@@ -84,24 +85,16 @@ fn all_counts(text: &[u8], s: Shape, counts: &mut [u16])
 }
 
 // By what the question is refused: room is the length of the counts buffer.
-fn counts_outcome(text: &[u8], s: Shape, room: usize) -> Outcome
+#[tactic(auto, unfolding(crate::specs::Counts::counts_said))]
+fn counts_outcome(text: &[u8], s: Shape, room: usize) -> Result<(), Refusal>
     ensures { outcome_said result ≡ counts_said text.now s room }
 {
-    let rows = s.rows;
-    let columns = s.columns;
-    let height = s.height;
-    let width = s.width;
-    let outcome = text_outcome(text, s);
-    let Outcome::Accepted = outcome else {
-        return outcome;
-    };
-    if room < (rows + 1 - height) * (columns + 1 - width) {
-        return Outcome::Refused(Refusal::Plain(Reason::WindowBufferShort));
-    }
-    Outcome::Accepted
+    s.text_outcome(text)?;
+    Reason::WindowBufferShort.unless(s.windows() <= room)
 }
 
 // Writes the number of different symbols in each window of that size, row by row of corners.
+#[tactic(auto, unfolding(crate::specs::Counts::counts_of))]
 pub fn distinct_counts(
     text: &[u8],
     rows: usize,
@@ -109,7 +102,7 @@ pub fn distinct_counts(
     height: usize,
     width: usize,
     counts: &mut [u16],
-) -> Outcome
+) -> Result<(), Refusal>
     ensures { filled result counts.new
         ≡ counts_of text.now (four_sides rows columns height width) counts.old }
 {
@@ -119,10 +112,7 @@ pub fn distinct_counts(
         height,
         width,
     };
-    let outcome = counts_outcome(text, s, counts.len());
-    let Outcome::Accepted = outcome else {
-        return outcome;
-    };
+    counts_outcome(text, s, counts.len())?;
     all_counts(text, s, counts);
-    Outcome::Accepted
+    Ok(())
 }

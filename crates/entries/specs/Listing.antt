@@ -14,10 +14,11 @@ use Rattle.shapes.specs.declared.shapes.Shape.{Shape}
 use Rattle.cells.specs.Windows.{window_at, corner_row, corner_column}
 use Rattle.sets.specs.Symbols.{symbols_of}
 use Rattle.occurrences.specs.Distinct.{distinct}
-use Rattle.matching.specs.Compare.{cell_of_pattern, window_of, cell_count}
+use Rattle.matching.specs.Compare.{cell_of_pattern}
+use Rattle.view.specs.Places.{window_of, cell_count}
 use Rattle.cells.specs.declared.windows.WindowPlace.{WindowPlace}
 use Rattle.matching.specs.declared.compare.Verdict.{Verdict}
-use Rattle.matching.specs.declared.compare.Verdict.TheVariants.{Match, Mismatch, Refused}
+use Rattle.matching.specs.declared.compare.Verdict.TheVariants.{Match, Mismatch}
 use Rattle.listing.specs.Entries.{pairs_of, mismatch_record, mismatch_body_at, entry_of, bytes_all}
 use Rattle.listing.specs.declared.records.Record.{Record}
 use Rattle.listing.specs.declared.records.Record.TheVariants.{Found, Closing}
@@ -37,13 +38,12 @@ entry_of_window q k =
     (symbols_of q.pattern.cells)
     (image_at q k) (answer_at q k)
 
--- the same by what the one-window question answers: the records that a verdict, with its bijection's forward column, is
--- listed as
-abbrev pub verdict_records : ℕ → ℕ → ℕ → List ℕ → List ℕ → Verdict → List Record
-verdict_records row column width symbols forward Match = Found row column ∷ pairs_of (λ a. get_or forward a 0) symbols
-verdict_records row column width symbols forward (Mismatch alike q p) =
+-- the same by what the one-window question answers: the records that a verdict is listed as
+abbrev pub verdict_records : ℕ → ℕ → ℕ → List ℕ → Verdict → List Record
+verdict_records row column width symbols (Match bijection) =
+    Found row column ∷ pairs_of (λ a. get_or bijection.forward a 0) symbols
+verdict_records row column width symbols (Mismatch alike q p) =
     mismatch_record alike (mismatch_body_at row column width q p) ∷ []
-verdict_records row column width symbols forward (Refused why) = []
 
 -- how many windows the pattern matches
 unfoldable pub found_in : Question → ℕ
@@ -83,4 +83,5 @@ entry_at text pattern v =
 
 -- the window at row top of the strip at column left
 abbrev pub window_of_strip : Shape → ℕ → ℕ → WindowPlace
-window_of_strip s left top = record { columns = s.columns; row = top; column = left; height = s.height; width = s.width }
+window_of_strip s left top =
+    record { columns = s.columns; row = top; column = left; height = s.height; width = s.width }

@@ -1,23 +1,26 @@
 // The records of one window: found with its pairs, or the mismatch that spoils it.
+// The buffer and its place are no struct: each clause would name them through `entry`.
 ghost use Rattle.std.specs.Prelude.{◌≡◌, ◌+◌, ◌≤◌, ◌<◌, eqb, length};
 ghost use Rattle.theory.specs.Test.{pick};
-ghost use Rattle.matching.specs.Compare.{cell_of_pattern, window_of, cell_count, Placed};
+ghost use Rattle.matching.specs.Compare.{cell_of_pattern};
+ghost use Rattle.view.specs.Places.{window_of, cell_count};
 ghost use Rattle.matching.specs.Windows.{SmallPlace};
 ghost use Rattle.theory.specs.Written.{written};
 ghost use Rattle.listing.specs.Entries.{bytes_all, cell_at, mismatch_body_at};
 ghost use Rattle.entries.specs.Listing.{entry_at};
 ghost use Rattle.prefixes.specs.Prefixes.{EndIs};
 ghost use Rattle.sets.specs.Symbols.{symbols_of};
-ghost use Rattle.entries.specs.Listing.Offsets.{PairTables};
+ghost use Rattle.entries.specs.Listing.Offsets.{pair_places};
 ghost use Rattle.entries.specs.Listing.Pairs.{pair_bytes};
 ghost use Rattle.entries.specs.Listing.Entries.{images_at, found_records, Unmatched, Answered};
 ghost use Rattle.entries.specs.Listing.{window_of_strip};
-ghost use Rattle.placed.specs.Placing.{placed};
 
+use crate::offsets::PairPlace;
 use cells::windows::WindowPlace;
 use listing::records::{MismatchBody, Place, Record, write_mismatch, write_record};
-use placed::placing::{Placing, pattern_at};
+use placed::pattern::Pattern;
 use shapes::shapes::Shape;
+use view::WindowView;
 
 // The window at row top of the strip at column left.
 pub fn strip_window(s: Shape, left: usize, top: usize) -> WindowPlace
@@ -33,71 +36,65 @@ pub fn strip_window(s: Shape, left: usize, top: usize) -> WindowPlace
 }
 
 // The pairs of a found window, the pattern's symbols rising: each with the window's symbol at its first place. The
-// tables have both at hand, so a pair is two reads, and no division is made.
-fn write_pairs(
-    text: &[u8],
-    v: WindowPlace,
-    pattern: &[u8],
-    g: Placing,
-    listed: &[u8],
-    offsets: &[usize; 256],
+// table has both at hand, so a pair is two reads, and no division is made.
+fn write_pairs<P: Pattern>(
+    w: WindowView,
+    pattern: P,
+    pairs: &[PairPlace],
     listing: &mut [u8],
     at: usize,
 ) -> usize
-    requires { Placed text.now v × (length (placed pattern.now g) ≡ cell_count v)
-        × PairTables (placed pattern.now g) v.columns v.width listed.now offsets.now
-        × (at + length (pair_bytes (images_at text.now v (placed pattern.now g)) (symbols_of (placed pattern.now g)))
+    requires { let v = w.place in
+        (length (P.cells pattern) ≡ cell_count v) × (pairs.now ≡ pair_places (P.cells pattern) v.columns v.width)
+        × (at + length (pair_bytes (images_at w.text.now v (P.cells pattern)) (symbols_of (P.cells pattern)))
         ≤ length listing.old) }
-    ensures value { result ≡ at + length (pair_bytes (images_at text.now v (placed pattern.now g))
-        (symbols_of (placed pattern.now g))) }
-    ensures listing_after { listing.new ≡ written listing.old at
-        (pair_bytes (images_at text.now v (placed pattern.now g))
-        (symbols_of (placed pattern.now g))) }
+    ensures end { let w = w.entry in
+        result ≡ at + length (pair_bytes (images_at w.text.now w.place (P.cells pattern))
+        (symbols_of (P.cells pattern))) }
+    ensures listing_after { let w = w.entry in
+        listing.new ≡ written listing.old at
+        (pair_bytes (images_at w.text.now w.place (P.cells pattern)) (symbols_of (P.cells pattern))) }
 {
-    let corner = v.row * v.columns + v.column;
-    let d = listed.len();
+    let corner = w.corner();
     let mut end = at;
-    let mut k = 0;
-    while k < d {
-        let symbol = listed[k];
-        let image = text[corner + offsets[k]];
+    for place in pairs {
         let pair = Record::Pair {
-            pattern: symbol,
-            text: image,
+            pattern: place.symbol,
+            text: w.text[corner + place.offset],
         };
         end = write_record(listing, end, pair);
-        k += 1;
     }
     end
 }
 
 // The records of a found window.
-fn write_found(
-    text: &[u8],
-    v: WindowPlace,
-    pattern: &[u8],
-    g: Placing,
-    listed: &[u8],
-    offsets: &[usize; 256],
+fn write_found<P: Pattern>(
+    w: WindowView,
+    pattern: P,
+    pairs: &[PairPlace],
     listing: &mut [u8],
     at: usize,
 ) -> usize
-    requires { Placed text.now v × SmallPlace v × (length (placed pattern.now g) ≡ cell_count v)
-        × PairTables (placed pattern.now g) v.columns v.width listed.now offsets.now
-        × (at + length (bytes_all (found_records text.now v (placed pattern.now g))) ≤ length listing.old) }
-    ensures value { result ≡ at + length (bytes_all (found_records text.now v (placed pattern.now g))) }
-    ensures listing_after { listing.new ≡ written listing.old at
-        (bytes_all (found_records text.now v (placed pattern.now g))) }
+    requires { let v = w.place in
+        SmallPlace v × (length (P.cells pattern) ≡ cell_count v)
+        × (pairs.now ≡ pair_places (P.cells pattern) v.columns v.width)
+        × (at + length (bytes_all (found_records w.text.now v (P.cells pattern))) ≤ length listing.old) }
+    ensures end { let w = w.entry in
+        result ≡ at + length (bytes_all (found_records w.text.now w.place (P.cells pattern))) }
+    ensures listing_after { let w = w.entry in
+        listing.new ≡ written listing.old at (bytes_all (found_records w.text.now w.place (P.cells pattern))) }
 {
+    // Corners are bytes, by `as`: `try_from` would have a way out that no value takes.
     let found = Record::Found {
-        row: v.row as u8,
-        column: v.column as u8,
+        row: w.place.row as u8,
+        column: w.place.column as u8,
     };
     let next = write_record(listing, at, found);
-    write_pairs(text, v, pattern, g, listed, offsets, listing, next)
+    write_pairs(w, pattern, pairs, listing, next)
 }
 
-// The cell at a position of the window. Positions have 16 bits, and a division of 32 costs less than one of 64.
+// The cell at a position of the window. Positions have 16 bits, and a division of 32 costs less than one of 64. All of
+// it fits, by `as`: `try_from` would have a way out that no value takes.
 fn cell_of(v: WindowPlace, p: usize) -> Place
     requires { SmallPlace v × (p < cell_count v) }
     ensures { result ≡ cell_at v.width p }
@@ -110,7 +107,7 @@ fn cell_of(v: WindowPlace, p: usize) -> Place
     }
 }
 
-// The window and the two cells of a refused window's record.
+// The window and the two cells of a refused window's record. A corner's numbers are bytes, likewise by `as`.
 fn mismatch_body(v: WindowPlace, earlier: usize, later: usize) -> MismatchBody
     requires { SmallPlace v × (earlier < cell_count v) × (later < cell_count v) }
     ensures { result ≡ mismatch_body_at v.row v.column v.width earlier later }
@@ -127,50 +124,49 @@ fn mismatch_body(v: WindowPlace, earlier: usize, later: usize) -> MismatchBody
 
 // The record of a window that the pattern does not match: later is the first position at which a mismatch ends, earlier
 // the first that mismatches with it.
-pub fn write_refused(
-    text: &[u8],
-    v: WindowPlace,
-    pattern: &[u8],
-    g: Placing,
+pub fn write_refused<P: Pattern>(
+    w: WindowView,
+    pattern: P,
     later: usize,
     earlier: usize,
     listing: &mut [u8],
     at: usize,
 ) -> usize
-    requires { Unmatched text.now v (placed pattern.now g)
-        × EndIs (cell_of_pattern (placed pattern.now g)) (window_of text.now v) (cell_count v) later earlier
-        × (at + length (bytes_all (entry_at text.now (placed pattern.now g) v)) ≤ length listing.old) }
-    ensures value { result ≡ at + length (bytes_all (entry_at text.now (placed pattern.now g) v)) }
-    ensures listing_after { listing.new ≡ written listing.old at
-        (bytes_all (entry_at text.now (placed pattern.now g) v)) }
+    requires { let v = w.place in
+        Unmatched w.text.now v (P.cells pattern)
+        × EndIs (cell_of_pattern (P.cells pattern)) (window_of w.text.now v) (cell_count v) later earlier
+        × (at + length (bytes_all (entry_at w.text.now (P.cells pattern) v)) ≤ length listing.old) }
+    ensures end { let w = w.entry in
+        result ≡ at + length (bytes_all (entry_at w.text.now (P.cells pattern) w.place)) }
+    ensures listing_after { let w = w.entry in
+        listing.new ≡ written listing.old at (bytes_all (entry_at w.text.now (P.cells pattern) w.place)) }
 {
-    let alike = pattern_at(pattern, g, earlier) == pattern_at(pattern, g, later);
-    let body = mismatch_body(v, earlier, later);
+    let alike = pattern.at(earlier) == pattern.at(later);
+    let body = mismatch_body(w.place, earlier, later);
     write_mismatch(listing, at, alike, body)
 }
 
 // The records of a window whose flag says that it is found, and none of another; in either case the place behind its
 // records.
-pub fn write_if_found(
-    text: &[u8],
-    v: WindowPlace,
-    pattern: &[u8],
-    g: Placing,
+pub fn write_if_found<P: Pattern>(
+    w: WindowView,
+    pattern: P,
     flag: u8,
-    listed: &[u8],
-    offsets: &[usize; 256],
+    pairs: &[PairPlace],
     listing: &mut [u8],
     at: usize,
 ) -> usize
-    requires { Answered text.now v (placed pattern.now g) flag listed.now offsets.now
-        × (at + length (bytes_all (entry_at text.now (placed pattern.now g) v)) ≤ length listing.old) }
-    ensures value { result ≡ at + length (bytes_all (entry_at text.now (placed pattern.now g) v)) }
-    ensures listing_after { listing.new ≡ pick (eqb flag 1)
-        (written listing.old at (bytes_all (entry_at text.now (placed pattern.now g) v)))
-        listing.old }
+    requires { let v = w.place in
+        Answered w.text.now v (P.cells pattern) flag pairs.now
+        × (at + length (bytes_all (entry_at w.text.now (P.cells pattern) v)) ≤ length listing.old) }
+    ensures end { let w = w.entry in
+        result ≡ at + length (bytes_all (entry_at w.text.now (P.cells pattern) w.place)) }
+    ensures listing_after { let w = w.entry in
+        listing.new ≡ pick (eqb flag 1)
+        (written listing.old at (bytes_all (entry_at w.text.now (P.cells pattern) w.place))) listing.old }
 {
     if flag == 1 {
-        return write_found(text, v, pattern, g, listed, offsets, listing, at);
+        return write_found(w, pattern, pairs, listing, at);
     }
     at + 7
 }

@@ -5,6 +5,8 @@ ghost use Rattle.mapping.specs.Bijections.{empty_bijection, pair_of, invert_of, 
 ghost use Rattle.refusals.specs.Said.{said_number};
 ghost use Rattle.values.specs.Bijections.{from_columns};
 
+use composing::compose::compose;
+use mapping::bijections::Bijection;
 use values::bijections::{bijection_in, write_answer, write_columns};
 
 // The bijection with no pair.
@@ -12,7 +14,7 @@ use values::bijections::{bijection_in, write_answer, write_columns};
 pub extern "C" fn colourway_bijection_empty(forward: &mut [u16; 256], backward: &mut [u16; 256])
     ensures { from_columns forward.new backward.new ≡ empty_bijection }
 {
-    write_columns(mapping::bijections::empty(), forward, backward);
+    write_columns(Bijection::empty(), forward, backward);
 }
 
 // Pairs the pattern symbol a with the text symbol c: document 01's mating.
@@ -23,12 +25,12 @@ pub extern "C" fn colourway_bijection_pair(
     a: u8,
     c: u8,
 ) -> u8
-    ensures value { result ≡ said_number (pair_of (from_columns forward.old backward.old) a c).said }
-    ensures backward_after { from_columns forward.new backward.new
+    ensures number { result ≡ said_number (pair_of (from_columns forward.old backward.old) a c).said }
+    ensures bijection_after { from_columns forward.new backward.new
         ≡ (pair_of (from_columns forward.old backward.old) a c).bijection }
 {
-    let answer = mapping::bijections::pair(bijection_in(forward, backward), a, c);
-    write_answer(answer, forward, backward)
+    let paired = bijection_in(forward, backward).pair(a, c);
+    write_answer(paired, forward, backward)
 }
 
 // Exchanges the columns.
@@ -37,12 +39,12 @@ pub extern "C" fn colourway_bijection_invert(
     forward: &mut [u16; 256],
     backward: &mut [u16; 256],
 ) -> u8
-    ensures value { result ≡ said_number (invert_of (from_columns forward.old backward.old)).said }
-    ensures backward_after { from_columns forward.new backward.new
+    ensures number { result ≡ said_number (invert_of (from_columns forward.old backward.old)).said }
+    ensures bijection_after { from_columns forward.new backward.new
         ≡ (invert_of (from_columns forward.old backward.old)).bijection }
 {
-    let answer = mapping::bijections::invert(bijection_in(forward, backward));
-    write_answer(answer, forward, backward)
+    let inverted = bijection_in(forward, backward).invert();
+    write_answer(inverted, forward, backward)
 }
 
 // First the bijection in the columns forward and backward, then the other one. The answer takes the place of the first.
@@ -53,13 +55,13 @@ pub extern "C" fn colourway_bijection_compose(
     other_forward: &[u16; 256],
     other_backward: &[u16; 256],
 ) -> u8
-    ensures value { result ≡ said_number (compose_of (from_columns forward.old backward.old)
+    ensures number { result ≡ said_number (compose_of (from_columns forward.old backward.old)
         (from_columns other_forward.now other_backward.now)).said }
-    ensures backward_after { from_columns forward.new backward.new
+    ensures bijection_after { from_columns forward.new backward.new
         ≡ (compose_of (from_columns forward.old backward.old)
         (from_columns other_forward.now other_backward.now)).bijection }
 {
     let other = bijection_in(other_forward, other_backward);
-    let answer = composing::compose::compose(bijection_in(forward, backward), other);
-    write_answer(answer, forward, backward)
+    let composed = compose(bijection_in(forward, backward), other);
+    write_answer(composed, forward, backward)
 }

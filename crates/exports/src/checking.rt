@@ -6,7 +6,8 @@ ghost use Rattle.shapes.specs.Questions.{ask};
 ghost use Rattle.rules.specs.Check.{check_of};
 ghost use Rattle.returned.specs.Returned.{values_by};
 
-use returned::checking::{checked_number, checked_totals};
+use returned::checking::return_counts;
+use shapes::question::Question;
 use verify::check::check;
 
 // Checks a listing for a text and a pattern (document 01, 'Reading and checking'). Found and refused go to totals;
@@ -22,15 +23,14 @@ pub extern "C" fn colourway_check(
     listing: &[u8],
     totals: &mut [usize; 2],
 ) -> u8
-    ensures value { result ≡ said_number
+    ensures number { result ≡ said_number
         (check_of (ask text.now rows columns pattern.now height width) listing.now) }
     ensures totals_after { totals.new ≡ values_by 0
         (check_of (ask text.now rows columns pattern.now height width) listing.now)
         totals.old }
     ensures bytes { Bytes text.now × Bytes pattern.now × Bytes listing.now }
 {
-    let answer = check(text, rows, columns, pattern, height, width, listing);
-    let number = checked_number(answer);
-    *totals = checked_totals(answer, *totals);
-    number
+    let q = Question::new(text, rows, columns, pattern, height, width);
+    let answer = check(q, listing);
+    return_counts(answer, totals)
 }

@@ -7,8 +7,8 @@ ghost use Rattle.values.specs.Bijections.{from_columns};
 ghost use Rattle.values.specs.Compare.{window_mismatch, window_bijection};
 
 use answering::one_window::one_window;
-use values::bijections::write_columns;
-use values::compare::{verdict_number, verdict_values};
+use shapes::question::Question;
+use values::compare::write_verdict;
 
 // Whether the pattern matches the window of its size at that corner of a text (document 01, 'One window'). The
 // bijection's columns go to forward and backward; a mismatch, as the kind of its record and its earlier and later cell
@@ -27,7 +27,7 @@ pub extern "C" fn colourway_one_window(
     backward: &mut [u16; 256],
     mismatch: &mut [usize; 3],
 ) -> u8
-    ensures value { result ≡ said_number (window_said (ask text.now rows columns pattern.now height width) row
+    ensures number { result ≡ said_number (window_said (ask text.now rows columns pattern.now height width) row
         column) }
     ensures backward_after { from_columns forward.new backward.new
         ≡ window_bijection (ask text.now rows columns pattern.now height width) row column
@@ -36,14 +36,7 @@ pub extern "C" fn colourway_one_window(
         ≡ window_mismatch (ask text.now rows columns pattern.now height width) row column
         mismatch.old }
 {
-    let answer = one_window(text, rows, columns, pattern, height, width, row, column);
-    let b = answer.bijection;
-    let verdict = answer.verdict;
-    let number = verdict_number(verdict);
-    if number != 0 {
-        return number;
-    }
-    write_columns(b, forward, backward);
-    *mismatch = verdict_values(verdict);
-    number
+    let q = Question::new(text, rows, columns, pattern, height, width);
+    let answer = one_window(q, row, column);
+    write_verdict(answer, forward, backward, mismatch)
 }

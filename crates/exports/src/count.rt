@@ -8,7 +8,8 @@ ghost use Rattle.searched.specs.Search.{count_of};
 ghost use Rattle.returned.specs.Returned.{values_by};
 
 use counting::count::count_windows;
-use returned::searching::{searched_number, searched_totals};
+use returned::searching::return_totals;
+use shapes::question::Question;
 
 // Counts the windows that the pattern matches, and those that it does not (document 02, R-1). Found, refused and the
 // length of the listing go to totals. A refusal changes nothing.
@@ -25,21 +26,18 @@ pub extern "C" fn colourway_count(
     flags: &mut [u8],
     totals: &mut [usize; 3],
 ) -> u8
-    ensures value { result ≡ said_number (count_of (ask text.now rows columns pattern.now height width)
+    ensures number { result ≡ said_number (count_of (ask text.now rows columns pattern.now height width)
         (working links.old counts.old flags.old)).said }
     ensures totals_after { totals.new ≡ values_by 2
         (count_of (ask text.now rows columns pattern.now height width)
         (working links.old counts.old flags.old)).said
         totals.old }
-    ensures flags_after { working links.new counts.new flags.new
+    ensures buffers_after { working links.new counts.new flags.new
         ≡ (count_of (ask text.now rows columns pattern.now height width)
         (working links.old counts.old flags.old)).work }
     ensures bytes { Bytes text.now × Bytes pattern.now }
 {
-    let answer = count_windows(
-        text, rows, columns, pattern, height, width, links, counts, flags,
-    );
-    let number = searched_number(answer);
-    *totals = searched_totals(answer, *totals);
-    number
+    let q = Question::new(text, rows, columns, pattern, height, width);
+    let answer = count_windows(q, links, counts, flags);
+    return_totals(answer, totals)
 }

@@ -7,7 +7,8 @@ ghost use Rattle.searched.specs.Search.{list_of};
 ghost use Rattle.returned.specs.Returned.{values_by};
 
 use lister::list::list_windows;
-use returned::searching::{searched_number, searched_totals};
+use returned::searching::return_totals;
+use shapes::question::Question;
 
 // Writes the search's listing from flags that are held against the truth first (document 02, R-1). Found, refused and
 // the length go to totals; refused by 11, the length needed goes to the last of them. Any other refusal changes
@@ -24,7 +25,7 @@ pub extern "C" fn colourway_list(
     listing: &mut [u8],
     totals: &mut [usize; 3],
 ) -> u8
-    ensures value { result ≡ said_number (list_of (ask text.now rows columns pattern.now height width)
+    ensures number { result ≡ said_number (list_of (ask text.now rows columns pattern.now height width)
         flags.now listing.old).said }
     ensures totals_after { totals.new ≡ values_by 2
         (list_of (ask text.now rows columns pattern.now height width) flags.now
@@ -35,8 +36,7 @@ pub extern "C" fn colourway_list(
         listing.old).buffer }
     ensures bytes { Bytes text.now × Bytes pattern.now }
 {
-    let answer = list_windows(text, rows, columns, pattern, height, width, flags, listing);
-    let number = searched_number(answer);
-    *totals = searched_totals(answer, *totals);
-    number
+    let q = Question::new(text, rows, columns, pattern, height, width);
+    let answer = list_windows(q, flags, listing);
+    return_totals(answer, totals)
 }

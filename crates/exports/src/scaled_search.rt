@@ -7,8 +7,9 @@ ghost use Rattle.scaled.specs.Scaled.{scaled_of};
 ghost use Rattle.searched.specs.Search.{lend};
 ghost use Rattle.returned.specs.Returned.{values_by};
 
-use returned::searching::{searched_number, searched_totals};
+use returned::searching::return_totals;
 use scales::single::search_scaled;
+use shapes::question::Question;
 
 // Searches a text for a pattern enlarged by a scale (document 02, R-2). Found, refused and the length go to totals;
 // refused by 11, the length needed goes to the last of them. Any other refusal changes nothing.
@@ -27,21 +28,18 @@ pub extern "C" fn colourway_search_scaled(
     listing: &mut [u8],
     totals: &mut [usize; 3],
 ) -> u8
-    ensures value { result ≡ said_number (scaled_of scale (ask text.now rows columns pattern.now height width)
+    ensures number { result ≡ said_number (scaled_of scale (ask text.now rows columns pattern.now height width)
         (lend links.old counts.old flags.old listing.old)).said }
     ensures totals_after { totals.new ≡ values_by 2
         (scaled_of scale (ask text.now rows columns pattern.now height width)
         (lend links.old counts.old flags.old listing.old)).said
         totals.old }
-    ensures listing_after { lend links.new counts.new flags.new listing.new
+    ensures lent_after { lend links.new counts.new flags.new listing.new
         ≡ (scaled_of scale (ask text.now rows columns pattern.now height width)
         (lend links.old counts.old flags.old listing.old)).lent }
     ensures bytes { Bytes text.now × Bytes pattern.now }
 {
-    let answer = search_scaled(
-        text, rows, columns, pattern, height, width, scale, links, counts, flags, listing,
-    );
-    let number = searched_number(answer);
-    *totals = searched_totals(answer, *totals);
-    number
+    let q = Question::new(text, rows, columns, pattern, height, width);
+    let answer = search_scaled(q, scale, links, counts, flags, listing);
+    return_totals(answer, totals)
 }

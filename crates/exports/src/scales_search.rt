@@ -7,8 +7,9 @@ ghost use Rattle.scaled.specs.Scaled.{every_of};
 ghost use Rattle.searched.specs.Search.{lend};
 ghost use Rattle.returned.specs.Returned.{values_by};
 
-use returned::scales::{summed_number, summed_totals};
+use returned::searching::return_totals;
 use scales::every::search_scales;
+use shapes::question::Question;
 
 // Searches a text for a pattern at every scale that fits (document 02, R-2). The sums of found, refused and length go
 // to totals; refused by 11, the length needed for all listings goes to the last of them. Any other refusal changes
@@ -27,21 +28,18 @@ pub extern "C" fn colourway_search_scales(
     listing: &mut [u8],
     totals: &mut [usize; 3],
 ) -> u8
-    ensures value { result ≡ said_number (every_of (ask text.now rows columns pattern.now height width)
+    ensures number { result ≡ said_number (every_of (ask text.now rows columns pattern.now height width)
         (lend links.old counts.old flags.old listing.old)).said }
     ensures totals_after { totals.new ≡ values_by 2
         (every_of (ask text.now rows columns pattern.now height width)
         (lend links.old counts.old flags.old listing.old)).said
         totals.old }
-    ensures listing_after { lend links.new counts.new flags.new listing.new
+    ensures lent_after { lend links.new counts.new flags.new listing.new
         ≡ (every_of (ask text.now rows columns pattern.now height width)
         (lend links.old counts.old flags.old listing.old)).lent }
     ensures bytes { Bytes text.now × Bytes pattern.now }
 {
-    let answer = search_scales(
-        text, rows, columns, pattern, height, width, links, counts, flags, listing,
-    );
-    let number = summed_number(answer);
-    *totals = summed_totals(answer, *totals);
-    number
+    let q = Question::new(text, rows, columns, pattern, height, width);
+    let answer = search_scales(q, links, counts, flags, listing);
+    return_totals(answer, totals)
 }

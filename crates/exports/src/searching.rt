@@ -6,8 +6,9 @@ ghost use Rattle.shapes.specs.Questions.{ask};
 ghost use Rattle.searched.specs.Search.{lend, search_of};
 ghost use Rattle.returned.specs.Returned.{values_by};
 
-use returned::searching::{searched_number, searched_totals};
+use returned::searching::return_totals;
 use search::search::search;
+use shapes::question::Question;
 
 // Searches a text for a pattern (document 01, 'Search and listing'). Found, refused and the length go to totals;
 // refused by 11, the length needed goes to the last of them. Any other refusal changes nothing.
@@ -25,21 +26,18 @@ pub extern "C" fn colourway_search(
     listing: &mut [u8],
     totals: &mut [usize; 3],
 ) -> u8
-    ensures value { result ≡ said_number (search_of (ask text.now rows columns pattern.now height width)
+    ensures number { result ≡ said_number (search_of (ask text.now rows columns pattern.now height width)
         (lend links.old counts.old flags.old listing.old)).said }
     ensures totals_after { totals.new ≡ values_by 2
         (search_of (ask text.now rows columns pattern.now height width)
         (lend links.old counts.old flags.old listing.old)).said
         totals.old }
-    ensures listing_after { lend links.new counts.new flags.new listing.new
+    ensures lent_after { lend links.new counts.new flags.new listing.new
         ≡ (search_of (ask text.now rows columns pattern.now height width)
         (lend links.old counts.old flags.old listing.old)).lent }
     ensures bytes { Bytes text.now × Bytes pattern.now }
 {
-    let answer = search(
-        text, rows, columns, pattern, height, width, links, counts, flags, listing,
-    );
-    let number = searched_number(answer);
-    *totals = searched_totals(answer, *totals);
-    number
+    let q = Question::new(text, rows, columns, pattern, height, width);
+    let answer = search(q, links, counts, flags, listing);
+    return_totals(answer, totals)
 }

@@ -6,8 +6,10 @@ ghost use Rattle.grid.specs.Strips.{links_of, strip_from};
 ghost use Rattle.counts.specs.Counts.{counts_of};
 ghost use Rattle.cells.specs.Windows.{cell_of, cell_number};
 
-use cells::windows::Cell;
-use refusals::refusals::outcome_number;
+use cells::windows::window_cell;
+use counts::counts::distinct_counts;
+use grid::strips::strip_links;
+use refusals::refusals::answer_number;
 
 // The links of the strip of that width whose first column is left (document 01, 'Strips and links').
 #[unsafe(no_mangle)]
@@ -19,12 +21,12 @@ pub extern "C" fn colourway_strip_links(
     left: usize,
     links: &mut [u16],
 ) -> u8
-    ensures value { result ≡ said_number
+    ensures number { result ≡ said_number
         (links_of text.now (strip_from rows columns width left) links.old).said }
     ensures links_after { links.new
         ≡ (links_of text.now (strip_from rows columns width left) links.old).buffer }
 {
-    outcome_number(grid::strips::strip_links(text, rows, columns, width, left, links))
+    answer_number(&strip_links(text, rows, columns, width, left, links))
 }
 
 // The number of different symbols in every window of that size (document 01, 'Tallies').
@@ -37,12 +39,12 @@ pub extern "C" fn colourway_distinct_counts(
     width: usize,
     counts: &mut [u16],
 ) -> u8
-    ensures value { result ≡ said_number
+    ensures number { result ≡ said_number
         (counts_of text.now (four_sides rows columns height width) counts.old).said }
     ensures counts_after { counts.new
         ≡ (counts_of text.now (four_sides rows columns height width) counts.old).buffer }
 {
-    outcome_number(counts::counts::distinct_counts(text, rows, columns, height, width, counts))
+    answer_number(&distinct_counts(text, rows, columns, height, width, counts))
 }
 
 // The symbol in cell (i, j) of the window at corner (row, column), or 256 where the cell lies past the text's end.
@@ -57,8 +59,5 @@ pub extern "C" fn colourway_window_cell(
 ) -> u16
     ensures { result ≡ cell_number (cell_of text.now row_width row column i j) }
 {
-    match cells::windows::window_cell(text, row_width, row, column, i, j) {
-        Cell::Symbol(v) => v as u16,
-        Cell::PastEnd => 256,
-    }
+    window_cell(text, row_width, row, column, i, j).map_or(256, u16::from)
 }

@@ -1,15 +1,16 @@
 // What the reader answers, in numbers.
 ghost use Rattle.std.specs.Prelude.{◌≡◌};
-ghost use Rattle.refusals.specs.Said.{said_number, said_values};
+ghost use Rattle.refusals.specs.Said.{said_values};
 ghost use Rattle.reading.specs.Reader.{read_said};
 ghost use Rattle.refusals.specs.Refusals.{value_or_given};
 ghost use Rattle.fields.specs.Reader.{fields_of, fields_by};
 
 use listing::records::Record;
 use reading::reader::Cursor;
-use refusals::refusals::{Refusal, refusal_number, value_or};
+use refusals::refusals::Refusal;
 
-// The numbers of a record: its kind, then those of its body, and 0 for what it does not have.
+// The numbers of a record: its kind, then those of its body, and 0 for what it does not have. No `From`: a record's
+// type is of another crate, and so are arrays.
 pub fn fields_of(item: Record) -> [u16; 7]
     ensures { result ≡ fields_of item }
 {
@@ -30,16 +31,6 @@ pub fn fields_of(item: Record) -> [u16; 7]
     }
 }
 
-// The number of an answer.
-pub fn read_number(answer: Result<(Record, Cursor), Refusal>) -> u8
-    ensures { result ≡ said_number (read_said answer) }
-{
-    match answer {
-        Ok(_) => 0,
-        Err(why) => refusal_number(why),
-    }
-}
-
 // The fields after an answer: its record's, or else what stood there.
 pub fn read_fields(answer: Result<(Record, Cursor), Refusal>, old: [u16; 7]) -> [u16; 7]
     ensures { result ≡ fields_by (read_said answer) old }
@@ -54,8 +45,5 @@ pub fn read_fields(answer: Result<(Record, Cursor), Refusal>, old: [u16; 7]) -> 
 pub fn read_place(answer: Result<(Record, Cursor), Refusal>, old: usize) -> usize
     ensures { result ≡ value_or_given (said_values (read_said answer)) old }
 {
-    match answer {
-        Ok((_, next)) => next.at,
-        Err(why) => value_or(why, old),
-    }
+    answer.map_or_else(|why| why.value().unwrap_or(old), |(_, next)| next.at)
 }

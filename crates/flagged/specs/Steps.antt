@@ -1,13 +1,14 @@
 -- What the steps of flagging leave in the buffers: every window's count and flag in order, as many links 0 as a strip
 -- has positions, and behind them what was there.
 -- Assumes nothing.
-use Rattle.std.specs.Prelude.{◌≡◌, refl, List, ◌++◌, ℕ, ◌+◌, ◌*◌, ◌≤◌, ◌<◌, length, drop}
-use Rattle.std.proofs.Common.{sym, ◌∙◌, ap, arith, length-append, length-drop}
+use Rattle.std.specs.Prelude.{◌≡◌, List, ◌++◌, ℕ, ◌+◌, ◌*◌, ◌≤◌, ◌<◌, length, drop, take, replicate}
+use Rattle.std.proofs.Common.{sym, ◌∙◌, ap, arith, length-append, length-drop, length-take}
 use Rattle.std.proofs.Math.ListN.{get_or-append}
+use Rattle.std.proofs.lemmas.List.{length-replicate, get_or-replicate}
 use Rattle.theory.specs.Table.{table}
-use Rattle.theory.specs.Table.Laws.{length-table, get_or-table}
-use Rattle.theory.specs.Store.{stored, stored_rows, Covers}
-use Rattle.theory.specs.Store.Laws.{rows_none, rows_more, rows_all}
+use Rattle.theory.specs.Table.Laws.{length-table, get_or-table, table_is}
+use Rattle.theory.specs.Store.{stored_rows}
+use Rattle.theory.specs.Store.Laws.{rows_all}
 use Rattle.refusals.specs.Said.{over_front}
 use Rattle.shapes.specs.Shapes.{ShapeOf, across, down}
 use Rattle.counts.specs.Counts.{count_in, counts_of}
@@ -70,25 +71,24 @@ pub flags_over : (text pattern : List ℕ) (s : Shape) (flags after : List ℕ) 
     → after ≡ over_front (table (flag_of text pattern s) (down s * across s)) flags
 flags_over text pattern s flags after pos room e =
     e
-    ∙ rows_all (flag_of text pattern s) (λ left top. top * across s + left) (down s) (across s) (down s * across s) flags
-    (windows_covered s pos) room
+    ∙ rows_all (flag_of text pattern s) (λ left top. top * across s + left) (down s) (across s) (down s * across s)
+    flags (windows_covered s pos) room
     ∙ sym (buffer_table (flag_of text pattern s) (down s * across s) flags)
 
 -- ---- links
 
-one_row : (n : ℕ) → Covers (λ i j. j) 1 n n
-one_row n = record { row = λ k. 0; column = λ k. k; place = λ k h. (omega arith, h, refl); inside = λ i j a b. b }
-
--- n entries stored one after another
-cleared : (n : ℕ) (l r : List ℕ) → n ≤ length l → r ≡ stored (λ p. 0) (λ p. p) n l → r ≡ table (λ p. 0) n ++ drop n l
-cleared n l r h e =
-    rows_more (λ p. 0) (λ i j. j) n 0 l l r (sym (rows_none (λ p. 0) (λ i j. j) n l)) e
-    ∙ rows_all (λ p. 0) (λ i j. j) n 1 n l (one_row n) h
-
-pub links_over : (n : ℕ) (links used after : List ℕ) → n ≤ length links → RestKept n links used
-    → after ≡ stored (λ p. 0) (λ p. p) n used
-    → after ≡ over_front (table (λ p. 0) n) links
-links_over n links used after room kept e =
-    cleared n used after (omega (arith, kept.long)) e
+-- the first n entries are 0, and behind them none was used
+pub links_over : (n : ℕ) (links used front : List ℕ) → n ≤ length links → RestKept n links used
+    → front ≡ replicate {A = ℕ} (length (take n used)) 0 → front ++ drop n used ≡ over_front (table (λ p. 0) n) links
+links_over n links used front room kept e =
+    ap (λ (l : List ℕ). l ++ drop n used) (e ∙ zeros)
     ∙ ap (λ (r : List ℕ). table (λ p. 0) n ++ r) kept.behind
     ∙ sym (buffer_table (λ p. 0) n links)
+  where
+    long : length (take n used) ≡ n
+    long = omega (arith, length-take {A = ℕ}, kept.long)
+
+    zeros : replicate {A = ℕ} (length (take n used)) 0 ≡ table (λ p. 0) n
+    zeros =
+        table_is (λ p. 0) n 0 _ (length-replicate {A = ℕ} _ 0 ∙ long)
+        (λ i h. get_or-replicate {A = ℕ} _ i 0 0 (omega (arith, long)))

@@ -9,22 +9,22 @@ ghost use Rattle.flagging.specs.Links.{RestKept};
 ghost use Rattle.flagging.specs.Windows.{FlaggedBelow, PatternTables, StripFlagged};
 ghost use Rattle.sweep.specs.Sweep.{OwnSoFar, SweepAt};
 ghost use Rattle.alike.specs.Pairs.{AlikePairs};
-ghost use Rattle.placed.specs.Placing.{placed};
 
+use alike::pairs::Pair;
 use flags::swept::flags_to_match;
 use grid::strips::strip_links;
 use linked::run::next_flag;
-use placed::placing::{Placing, pattern_cells};
+use placed::pattern::Pattern;
+use rows::run::{FirstEnd, Run};
 use shapes::shapes::Shape;
 use sweep::own::lengthen_ends;
 
 // The flags of the windows at column left from row from on, below one that matches, each with what the last one that
 // was compared says of it.
-fn flag_strip(
-    pattern: &[u8],
-    g: Placing,
+fn flag_strip<P: Pattern>(
+    pattern: P,
     first: &[usize; 256],
-    selves: &[usize; 256],
+    own: &[FirstEnd; 256],
     symbols: u16,
     s: Shape,
     left: usize,
@@ -33,39 +33,36 @@ fn flag_strip(
     links: &[u16],
     flags: &mut [u8],
 )
-    requires { Room (s.rows * s.columns) (length (placed pattern.now g)) s (length links.now) (length counts.now)
+    requires { Room (s.rows * s.columns) (length (P.cells pattern)) s (length links.now) (length counts.now)
         (length flags.old) × (left < across s)
-        × PatternTables (placed pattern.now g) s.width (down s) first.now selves.now
+        × PatternTables (P.cells pattern) s.width (down s) first.now own.now
         × (1 ≤ from) × (from ≤ down s) }
-    ensures { StripFlagged (placed pattern.now g) symbols s left from counts.now links.now
-        flags.old flags.new }
+    ensures { StripFlagged (P.cells pattern) symbols s left from counts.now links.now flags.old flags.new }
 {
-    let across = s.columns + 1 - s.width;
-    let down = s.rows + 1 - s.height;
-    let mut row = from - 1;
-    let mut reached = row * s.width + pattern_cells(pattern, g);
-    let mut top = from;
-    while top < down {
+    let across = s.across();
+    let down = s.down();
+    let row = from - 1;
+    let mut run = Run {
+        row,
+        reached: row * s.width + pattern.len(),
+    };
+    for top in from..down {
         let k = top * across + left;
         let r = next_flag(
-            pattern, g, first, selves, symbols, counts[k], links, s.width, row, reached, top,
+            pattern, first, own, symbols, counts[k], links, s.width, run, top,
         );
         flags[k] = r.flag;
-        row = r.row;
-        reached = r.reached;
-        top += 1;
+        run = r.run;
     }
 }
 
 // The same by the strip's links, which the links buffer holds meanwhile, and by all own ends of the pattern: the window
 // above agrees throughout, so that the next one asks for them.
-fn flag_linked(
+fn flag_linked<P: Pattern>(
     text: &[u8],
-    pattern: &[u8],
-    g: Placing,
+    pattern: P,
     first: &[usize; 256],
-    selves: &mut [usize; 256],
-    earlies: &mut [usize; 256],
+    own: &mut [FirstEnd; 256],
     symbols: u16,
     s: Shape,
     left: usize,
@@ -74,43 +71,38 @@ fn flag_linked(
     links: &mut [u16],
     flags: &mut [u8],
 )
-    requires { Ready text.now (placed pattern.now g) symbols s counts.now (length links.old) (length flags.old)
-        × (left < across s) × SweepAt text.now s (placed pattern.now g) first.now selves.old earlies.old
+    requires { Ready text.now (P.cells pattern) symbols s counts.now (length links.old) (length flags.old)
+        × (left < across s) × SweepAt text.now s (P.cells pattern) first.now own.old
         × (1 ≤ from) × (from ≤ down s)
-        × (flag_of text.now (placed pattern.now g) s ((from - 1) * across s + left) ≡ 1) }
-    ensures flagged_below { FlaggedBelow text.now (placed pattern.now g) s left from flags.old
-        flags.new }
+        × (flag_of text.now (P.cells pattern) s ((from - 1) * across s + left) ≡ 1) }
+    ensures flagged_below { FlaggedBelow text.now (P.cells pattern) s left from flags.old flags.new }
     ensures rest_kept { RestKept (s.rows * s.width) links.old links.new }
-    ensures own_so_far { OwnSoFar (placed pattern.now g) s.width (down s) selves.new earlies.new }
+    ensures own_so_far { OwnSoFar (P.cells pattern) s.width (down s) own.new }
 {
-    strip_links(text, s.rows, s.columns, s.width, left, links);
-    let windows = s.rows + 1 - s.height;
+    // The sides are sound and there is room, so nothing is refused.
+    let _ = strip_links(text, s.rows, s.columns, s.width, left, links);
+    let windows = s.down();
     lengthen_ends(
         pattern,
-        g,
         s.height,
         s.width,
         windows,
         first,
-        selves,
-        earlies,
-        pattern_cells(pattern, g),
+        own,
+        pattern.len(),
     );
     flag_strip(
-        pattern, g, first, selves, symbols, s, left, from, counts, links, flags,
+        pattern, first, own, symbols, s, left, from, counts, links, flags,
     );
 }
 
 // The flags of the windows at column left.
-pub fn flag_column(
+pub fn flag_column<P: Pattern>(
     text: &[u8],
-    pattern: &[u8],
-    g: Placing,
+    pattern: P,
     first: &[usize; 256],
-    selves: &mut [usize; 256],
-    earlies: &mut [usize; 256],
-    earlier: &[usize; 8],
-    later: &[usize; 8],
+    own: &mut [FirstEnd; 256],
+    pairs: &[Pair; 8],
     symbols: u16,
     s: Shape,
     left: usize,
@@ -118,21 +110,21 @@ pub fn flag_column(
     links: &mut [u16],
     flags: &mut [u8],
 )
-    requires { Ready text.now (placed pattern.now g) symbols s counts.now (length links.old) (length flags.old)
-        × (left < across s) × SweepAt text.now s (placed pattern.now g) first.now selves.old earlies.old
-        × AlikePairs (placed pattern.now g) s.columns s.width earlier.now later.now }
-    ensures flags_after { flags.new ≡ stored (flag_of text.now (placed pattern.now g) s)
+    requires { Ready text.now (P.cells pattern) symbols s counts.now (length links.old) (length flags.old)
+        × (left < across s) × SweepAt text.now s (P.cells pattern) first.now own.old
+        × AlikePairs (P.cells pattern) s.columns s.width pairs.now }
+    ensures flags { flags.new ≡ stored (flag_of text.now (P.cells pattern) s)
         (λ top. top * across s + left) (down s) flags.old }
     ensures rest_kept { RestKept (s.rows * s.width) links.old links.new }
-    ensures own_so_far { OwnSoFar (placed pattern.now g) s.width (down s) selves.new earlies.new }
+    ensures own_so_far { OwnSoFar (P.cells pattern) s.width (down s) own.new }
 {
     let from = flags_to_match(
-        text, pattern, g, first, earlier, later, symbols, s, left, counts, selves, earlies, flags,
+        text, pattern, first, pairs, symbols, s, left, counts, own, flags,
     );
-    if s.rows + 1 - s.height <= from {
+    if s.down() <= from {
         return;
     }
     flag_linked(
-        text, pattern, g, first, selves, earlies, symbols, s, left, from, counts, links, flags,
+        text, pattern, first, own, symbols, s, left, from, counts, links, flags,
     );
 }

@@ -8,8 +8,8 @@ ghost use Rattle.grid.specs.Strips.{link, links_said, links_of, strip_from, stri
 ghost use Rattle.grid.specs.Strips.{RowFrom, Linkable, LinkedRow};
 
 use cells::windows::WindowPlace;
-use refusals::refusals::{Outcome, Reason, Refusal};
-use shapes::shapes::{Shape, corner_inside, text_outcome};
+use refusals::refusals::{Reason, Refusal};
+use shapes::shapes::Shape;
 use shapes::tables::table;
 use view::WindowView;
 
@@ -49,11 +49,12 @@ fn distance(last: u16, place: usize) -> u16
     if last == 0 {
         return 0;
     }
+    // Of 16 bits, by `as`: `try_from` would have a way out that no value takes.
     (place + 1 - usize::from(last)) as u16
 }
 
 // The links of one row of a strip, whose first position is base. The last places are those before the row, and
-// afterwards those with it.
+// afterwards those with it. They are of 16 bits, likewise by `as`.
 fn link_row(row: &[u8], base: usize, last: &mut [u16; 256], links: &mut [u16])
     requires { Linkable base row.now last.old (length links.old) }
     ensures { (s : ℕ → ℕ) → RowFrom s base row.now → LastPlaces s base last.old
@@ -79,37 +80,24 @@ fn link_rows(text: &[u8], t: Strip, links: &mut [u16])
     }
 }
 
-// By what the question is refused: room is the length of the links buffer.
-fn strip_outcome(
-    text: &[u8],
-    rows: usize,
-    columns: usize,
-    width: usize,
-    left: usize,
-    room: usize,
-) -> Outcome
-    ensures { outcome_said result ≡ links_said text.now (strip_from rows columns width left) room }
+// By what the question is refused: a strip is as tall as the text, and room is the length of the links buffer.
+#[tactic(auto, unfolding(crate::specs::Strips::links_said))]
+fn strip_outcome(text: &[u8], t: Strip, room: usize) -> Result<(), Refusal>
+    ensures { outcome_said result ≡ links_said text.now t room }
 {
     let s = Shape {
-        rows,
-        columns,
-        height: rows,
-        width,
+        rows: t.rows,
+        columns: t.columns,
+        height: t.rows,
+        width: t.width,
     };
-    let outcome = text_outcome(text, s);
-    let Outcome::Accepted = outcome else {
-        return outcome;
-    };
-    if !corner_inside(rows, columns, rows, width, 0, left) {
-        return Outcome::Refused(Refusal::Plain(Reason::CornerOutside));
-    }
-    if room < rows * width {
-        return Outcome::Refused(Refusal::Plain(Reason::LinksBufferShort));
-    }
-    Outcome::Accepted
+    s.text_outcome(text)?;
+    Reason::CornerOutside.unless(s.corner_inside(0, t.left))?;
+    Reason::LinksBufferShort.unless(t.rows * t.width <= room)
 }
 
 // Writes the links of the strip of that width whose first column is left, row by row.
+#[tactic(auto, unfolding(crate::specs::Strips::links_of))]
 pub fn strip_links(
     text: &[u8],
     rows: usize,
@@ -117,20 +105,17 @@ pub fn strip_links(
     width: usize,
     left: usize,
     links: &mut [u16],
-) -> Outcome
+) -> Result<(), Refusal>
     ensures { filled result links.new
         ≡ links_of text.now (strip_from rows columns width left) links.old }
 {
-    let outcome = strip_outcome(text, rows, columns, width, left, links.len());
-    let Outcome::Accepted = outcome else {
-        return outcome;
-    };
     let t = Strip {
         rows,
         columns,
         left,
         width,
     };
+    strip_outcome(text, t, links.len())?;
     link_rows(text, t, links);
-    Outcome::Accepted
+    Ok(())
 }

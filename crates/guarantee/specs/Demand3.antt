@@ -9,16 +9,17 @@
 pub mod Standing
 pub mod Times
 use Rattle.std.specs.Prelude.{◌≡◌, List, [], ◌∷◌, ◌++◌, ℕ, ◌+◌, ◌*◌, ◌<◌, ◌-◌, take, length, ◌↔◌, Bool, false, eqb, ltb}
+use Rattle.std.specs.Prelude.{Result, Ok}
 use Rattle.theory.specs.Bytes.{Bytes}
 use Rattle.theory.specs.Match.{Mismatch}
 use Rattle.shapes.specs.Questions.{Question, across_of, windows_of}
 use Rattle.sets.specs.Symbols.{symbols_of}
 use Rattle.matching.specs.Compare.{pattern_of, window_in, positions, CornerIn, told, one_window_of, MatchesAt}
-use Rattle.matching.specs.declared.compare.WindowAnswer.{WindowAnswer}
+use Rattle.matching.specs.declared.compare.Verdict.{Verdict}
+use Rattle.refusals.specs.declared.refusals.Refusal.{Refusal}
 use Rattle.listing.specs.declared.records.Record.{Record}
 use Rattle.entries.specs.Listing.{verdict_records}
-use Rattle.searched.specs.Search.{Lent, done, search_of, list_done, list_of}
-use Rattle.searched.specs.declared.answer.Searched.TheVariants.{Listed}
+use Rattle.searched.specs.Search.{totalling, Lent, done, search_of, list_done, list_of}
 use Rattle.rules.specs.Check.{checked_said, check_of}
 use Rattle.rules.specs.Check.{kept}
 use Rattle.theory.specs.Test.{pick, both}
@@ -131,24 +132,24 @@ OfTheCheck =
     → Bytes q.pattern.cells × Bytes listing
     → Demand3 q listing found refused
 
--- each window's records list its one-window answer, as the one-window question ensures it
+-- each window's one-window question, by what it ensures, is answered, and the window's records list the verdict
 abbrev pub ListsAnswers : Question → (ℕ → ℕ → List Record) → Type 0
 ListsAnswers q entry =
-    (row column : ℕ) → CornerIn q row column → (a : WindowAnswer) → told a ≡ one_window_of q row column
-    → entry row column ≡ verdict_records row column q.pattern.columns (symbols_of q.pattern.cells)
-    a.bijection.forward a.verdict
+    (row column : ℕ) → CornerIn q row column → (a : Result Verdict Refusal) → told a ≡ one_window_of q row column
+    → (v : Verdict) × (a ≡ Ok v)
+    × (entry row column ≡ verdict_records row column q.pattern.columns (symbols_of q.pattern.cells) v)
 
 -- of every listing that the search writes: as many first bytes of the listing buffer after it as the returned length
 -- says. There besides each window's records list its one-window answer.
 abbrev pub OfTheSearch : Type 0
 OfTheSearch =
     (q : Question) (l after : Lent) (found refused size : ℕ)
-    → done (Listed found refused size) after ≡ search_of q l → Bytes q.pattern.cells
+    → done (totalling found refused size) after ≡ search_of q l → Bytes q.pattern.cells
     → (entry : ℕ → ℕ → List Record) × Shows q (take size after.listing) found refused entry × ListsAnswers q entry
 
 -- of every listing that List writes, whoever made the flags that it was lent: the same
 abbrev pub OfTheList : Type 0
 OfTheList =
     (q : Question) (flags old after : List ℕ) (found refused size : ℕ)
-    → list_done (Listed found refused size) after ≡ list_of q flags old → Bytes q.pattern.cells
+    → list_done (totalling found refused size) after ≡ list_of q flags old → Bytes q.pattern.cells
     → (entry : ℕ → ℕ → List Record) × Shows q (take size after) found refused entry × ListsAnswers q entry

@@ -5,7 +5,7 @@
 -- and tallies are computed in counts (`Examples`).
 -- Assumes nothing.
 pub mod Coarse
-use Rattle.std.specs.Prelude.{◌≡◌, refl, Bool, true, false, not, List, [], ◌∷◌, ◌++◌, ℕ, zero, suc, ◌+◌, ◌*◌, ◌/◌, ◌%◌, ◌≤◌, ◌<◌, eqb, leb, length, get_or}
+use Rattle.std.specs.Prelude.{Ok, ◌≡◌, refl, Bool, true, false, not, List, [], ◌∷◌, ◌++◌, ℕ, zero, suc, ◌+◌, ◌*◌, ◌/◌, ◌%◌, ◌≤◌, ◌<◌, eqb, leb, length, get_or}
 use Rattle.std.proofs.Common.{sym, ◌∙◌, arith}
 use Rattle.std.proofs.Math.Path.{ap, ap₂, fun_ext}
 use Rattle.theory.specs.Test.{pick, both}
@@ -20,7 +20,6 @@ use Rattle.cells.specs.Windows.Laws.{window_at_lem}
 use Rattle.occurrences.specs.Distinct.{contains}
 use Rattle.occurrences.specs.Distinct.Sets.{contains_none, contains_cons}
 use Rattle.refusals.specs.Said.{filled, accepts, over_front}
-use Rattle.refusals.specs.declared.refusals.Outcome.TheVariants.{Accepted}
 use Rattle.grid.specs.Strips.{links_of, strip_from}
 use Rattle.counts.specs.Counts.{counts_of}
 use Rattle.counts.specs.Examples.{example_links, example_counts}
@@ -198,10 +197,10 @@ pub starred_drafts : record {
       ++ (5 ∷ 0 ∷ 1 ∷ 0 ∷ 1 ∷ []));
   needs_21 : needed_length (ask first_text 2 3 first_pattern 2 2) ≡ 21;
   -- ★ 'Its links for c = 2: strip 0 gives 0 1 0 2, strip 1 gives 0 0 2 1', in a buffer of five entries 9
-  links : (links_of first_text (strip_from 2 3 2 0) (9 ∷ 9 ∷ 9 ∷ 9 ∷ 9 ∷ []) ≡ filled Accepted (0 ∷ 1 ∷ 0 ∷ 2 ∷ 9 ∷ []))
-      × (links_of first_text (strip_from 2 3 2 1) (9 ∷ 9 ∷ 9 ∷ 9 ∷ 9 ∷ []) ≡ filled Accepted (0 ∷ 0 ∷ 2 ∷ 1 ∷ 9 ∷ []));
+  links : (links_of first_text (strip_from 2 3 2 0) (9 ∷ 9 ∷ 9 ∷ 9 ∷ 9 ∷ []) ≡ filled (Ok tt) (0 ∷ 1 ∷ 0 ∷ 2 ∷ 9 ∷ []))
+      × (links_of first_text (strip_from 2 3 2 1) (9 ∷ 9 ∷ 9 ∷ 9 ∷ 9 ∷ []) ≡ filled (Ok tt) (0 ∷ 0 ∷ 2 ∷ 1 ∷ 9 ∷ []));
   -- ★ 'Its tallies: 2, 2', in a buffer of three entries 9
-  distinct_counts : counts_of first_text (four_sides 2 3 2 2) (9 ∷ 9 ∷ 9 ∷ []) ≡ filled Accepted (2 ∷ 2 ∷ 9 ∷ []);
+  distinct_counts : counts_of first_text (four_sides 2 3 2 2) (9 ∷ 9 ∷ 9 ∷ []) ≡ filled (Ok tt) (2 ∷ 2 ∷ 9 ∷ []);
   -- ★ '1 by 1, sheet 5, motif 5: `1 0 0`, `2 5 5`, `5 0 1 0 0`'
   one_cell : Searches (ask (5 ∷ []) 1 1 (5 ∷ []) 1 1) 1 0
       ((1 ∷ 0 ∷ 0 ∷ []) ++ (2 ∷ 5 ∷ 5 ∷ []) ++ (5 ∷ 0 ∷ 1 ∷ 0 ∷ 0 ∷ []));

@@ -15,15 +15,13 @@ use Rattle.listing.specs.declared.records.Record.{Record}
 use Rattle.matching.specs.Compare.{pattern_of, window_in, positions, CornerIn}
 use Rattle.flags.specs.Flags.{rooms_of}
 use Rattle.entries.specs.Listing.{found_in, refused_in, needed_length}
-use Rattle.searched.specs.Search.{Lent, done}
+use Rattle.searched.specs.Search.{totalling, Lent, done}
 use Rattle.searched.specs.Search.Writes.{Writes}
-use Rattle.searched.specs.declared.answer.Searched.TheVariants.{Listed}
 use Rattle.scaled.specs.Scaled.{scaled, scaled_of, largest_of, found_to, refused_to, length_to, every_of, summed}
 use Rattle.scaled.specs.Scaled.Fit.{scaled_posed, every_room}
 use Rattle.scaled.specs.Scaled.Cells.{enlarged_bytes}
 use Rattle.scaled.specs.Scaled.Listings.{scaled-length}
 use Rattle.scaled.specs.Theorems.{scaled-part, every_listed_lem, every_part}
-use Rattle.scaled.specs.declared.answer.Summed.TheVariants as Sums
 use Rattle.rules.specs.Check.{checked_said, check_of}
 use Rattle.rules.proofs.Theorems.{accepts_all}
 use Rattle.rules.specs.Check.{Checked}
@@ -39,7 +37,7 @@ use Rattle.guarantee.specs.Theorems.{search_entries, written_keeps, written_show
 abbrev pub OfTheScaled : Type 0
 OfTheScaled =
     (k : ℕ) (q : Question) (l after : Lent) (found refused size : ℕ)
-    → done (Listed found refused size) after ≡ scaled_of k q l → Bytes q.pattern.cells
+    → done (totalling found refused size) after ≡ scaled_of k q l → Bytes q.pattern.cells
     → (entry : ℕ → ℕ → List Record) × Shows (scaled k q) (take size after.listing) found refused entry
     × ListsAnswers (scaled k q) entry
 
@@ -53,7 +51,7 @@ listing_after q k listings = take (needed_length (scaled (k + 1) q)) (drop (leng
 abbrev pub OfEveryScale : Type 0
 OfEveryScale =
     (q : Question) (l after : Lent) (found refused size : ℕ)
-    → summed (Sums.Listed found refused size) after ≡ every_of q l → Bytes q.pattern.cells
+    → summed (totalling found refused size) after ≡ every_of q l → Bytes q.pattern.cells
     → (found ≡ found_to q (largest_of q)) × (refused ≡ refused_to q (largest_of q)) × (size ≡ length_to q (largest_of q))
     × ((k : ℕ) → k + 1 ≤ largest_of q
     → (entry : ℕ → ℕ → List Record)
@@ -63,7 +61,7 @@ OfEveryScale =
 -- ---- each k's listing stands at the front of what begins at its place
 
 module _ (q : Question) (l after : Lent) (found refused size : ℕ)
-    (is : summed (Sums.Listed found refused size) after ≡ every_of q l) (bytes : Bytes q.pattern.cells)
+    (is : summed (totalling found refused size) after ≡ every_of q l) (bytes : Bytes q.pattern.cells)
     (k : ℕ) (high : k + 1 ≤ largest_of q) where
   part_writes : Writes (scaled (k + 1) q) (drop (length_to q k) after.listing) (drop (length_to q k) after.listing)
       (found_in (scaled (k + 1) q)) (refused_in (scaled (k + 1) q)) (needed_length (scaled (k + 1) q))
@@ -107,7 +105,7 @@ scaled_demand_3 = (at_k, at_every)
 -- ---- the check with the enlarged pattern accepts what each writes, with that listing's counts
 
 pub scaled_then_check : (k : ℕ) (q : Question) (l after : Lent) (found refused size : ℕ)
-    → done (Listed found refused size) after ≡ scaled_of k q l → Bytes q.pattern.cells
+    → done (totalling found refused size) after ≡ scaled_of k q l → Bytes q.pattern.cells
     → (r : Checked) → checked_said r ≡ check_of (scaled k q) (take size after.listing) → r ≡ kept found refused
 scaled_then_check k q l after found refused size is bytes r checks =
     accepts_all (scaled k q) (take size after.listing) r checks (enlarged_bytes k q.pattern bytes) found refused (
@@ -117,7 +115,7 @@ scaled_then_check k q l after found refused size is bytes r checks =
     )
 
 pub every_then_check : (q : Question) (l after : Lent) (found refused size : ℕ)
-    → summed (Sums.Listed found refused size) after ≡ every_of q l → Bytes q.pattern.cells
+    → summed (totalling found refused size) after ≡ every_of q l → Bytes q.pattern.cells
     → (k : ℕ) → k + 1 ≤ largest_of q
     → (r : Checked) → checked_said r ≡ check_of (scaled (k + 1) q) (listing_after q k after.listing)
     → r ≡ kept (found_in (scaled (k + 1) q)) (refused_in (scaled (k + 1) q))
@@ -134,7 +132,7 @@ every_then_check q l after found refused size is bytes k high r checks =
 -- ---- document 01's renaming at every scale, from what the operations ensure alone
 
 pub scaled_columns : (k : ℕ) (q : Question) (l after : Lent) (found refused size : ℕ)
-    (searches : done (Listed found refused size) after ≡ scaled_of k q l)
+    (searches : done (totalling found refused size) after ≡ scaled_of k q l)
     (bytes : Bytes q.text.cells × Bytes q.pattern.cells)
     (row column : ℕ) → CornerIn (scaled k q) row column
     → (times_found
@@ -147,7 +145,7 @@ scaled_columns k q l after found refused size searches bytes row column c =
     (enlarged_bytes k q.pattern bytes.1)
 
 pub every_columns : (q : Question) (l after : Lent) (found refused size : ℕ)
-    (searches : summed (Sums.Listed found refused size) after ≡ every_of q l)
+    (searches : summed (totalling found refused size) after ≡ every_of q l)
     (bytes : Bytes q.text.cells × Bytes q.pattern.cells)
     (k : ℕ) (high : k + 1 ≤ largest_of q) (row column : ℕ) → CornerIn (scaled (k + 1) q) row column
     → (times_found

@@ -3,7 +3,7 @@
 -- `one_window`. Why it holds: what the check accepts keeps the rules, the listing that search and List write keeps them
 -- too (`search_keeps`), and a listing that keeps the rules is as the demand says (`keeps_shows`).
 -- Assumes nothing.
-use Rattle.std.specs.Prelude.{◌≡◌, refl, List, ℕ, ◌+◌, ◌*◌, ◌<◌, take, ◌↔◌}
+use Rattle.std.specs.Prelude.{◌≡◌, refl, List, ℕ, ◌+◌, ◌*◌, ◌<◌, take, ◌↔◌, Result, Ok}
 use Rattle.std.proofs.Common.{◌∙◌, arith}
 use Rattle.theory.specs.Bytes.{Bytes}
 use Rattle.theory.specs.Match.{Answer, matched, mismatched, answer_of, image_of}
@@ -14,15 +14,15 @@ use Rattle.shapes.specs.Questions.{Question, Posed, across_of}
 use Rattle.sets.specs.Symbols.{symbols_of}
 use Rattle.cells.specs.Windows.Laws.{corner_row_lem, corner_column_lem}
 use Rattle.matching.specs.Compare.{pattern_of, window_in, positions, CornerIn, told, one_window_of}
-use Rattle.matching.specs.declared.compare.WindowAnswer.{WindowAnswer}
+use Rattle.matching.specs.declared.compare.Verdict.{Verdict}
+use Rattle.refusals.specs.declared.refusals.Refusal.{Refusal}
 use Rattle.matching.specs.Questions.{answer_at}
 use Rattle.entries.specs.Listing.{image_at, entry_of_window, found_in, refused_in, search_records, search_listing}
 use Rattle.entries.specs.Listing.{verdict_records}
 use Rattle.listing.specs.declared.records.Record.{Record}
-use Rattle.searched.specs.Search.{Lent, done, search_of, list_done, list_of}
+use Rattle.searched.specs.Search.{totalling, Lent, done, search_of, list_done, list_of}
 use Rattle.searched.specs.Search.Writes.{Writes, writes_bytes, searched_writes, listed_writes}
 use Rattle.searched.specs.Theorems.{lists_answer}
-use Rattle.searched.specs.declared.answer.Searched.TheVariants.{Listed}
 use Rattle.rules.specs.Check.{checked_said, check_of}
 use Rattle.rules.specs.Rules.{TrueOf, Entries, records_to, Keeps}
 use Rattle.rules.proofs.Theorems.{accepts_all, accepts_only}
@@ -69,18 +69,17 @@ module _ (q : Question) where
         rw (writes_bytes q old after found refused size bytes w, w.found_is, w.refused_is)
         (search_keeps w.posed_is)
 
-    -- each window's records list its one-window answer
-    written_answers : (row column : ℕ) → CornerIn q row column → (a : WindowAnswer)
+    -- each window's one-window question is answered, and the window's records list the verdict
+    written_answers : (row column : ℕ) → CornerIn q row column → (a : Result Verdict Refusal)
         → told a ≡ one_window_of q row column
-        → entry_shown q (take size after) found refused search_entries written_keeps bytes row column
-        ≡ verdict_records row column q.pattern.columns (symbols_of q.pattern.cells) a.bijection.forward
-        a.verdict
+        → (v : Verdict) × (a ≡ Ok v)
+        × (entry_shown q (take size after) found refused search_entries written_keeps bytes row column
+        ≡ verdict_records row column q.pattern.columns (symbols_of q.pattern.cells) v)
     unfolding entry_shown search_entries entry_of_window
     written_answers row column c a answers =
         let inside : column < across_of q = omega (arith, c.column_le) in
-        entry_same inside
-        ∙ lists_answer q row column inside a answers
-        (record { posed_is = w.posed_is; corner = c })
+        let listed = lists_answer q row column inside a answers (record { posed_is = w.posed_is; corner = c }) in
+        (listed.0, listed.1, entry_same inside ∙ listed.2)
       where
         entry_same : column < across_of q
             → entry_shown q (take size after) found refused search_entries written_keeps bytes row column
@@ -120,7 +119,7 @@ demand_3 = (checked, searched, listed)
 
 -- what the search writes, the check accepts, with the same counts
 pub search_then_check : (q : Question) (l after : Lent) (found refused size : ℕ)
-    → done (Listed found refused size) after ≡ search_of q l → Bytes q.pattern.cells
+    → done (totalling found refused size) after ≡ search_of q l → Bytes q.pattern.cells
     → (r : Checked) → checked_said r ≡ check_of q (take size after.listing) → r ≡ kept found refused
 search_then_check q l after found refused size searches bytes r checks =
     accepts_all q (take size after.listing) r checks bytes found refused (
@@ -131,7 +130,7 @@ search_then_check q l after found refused size searches bytes r checks =
 
 -- and what List writes
 pub list_then_check : (q : Question) (flags old after : List ℕ) (found refused size : ℕ)
-    → list_done (Listed found refused size) after ≡ list_of q flags old → Bytes q.pattern.cells
+    → list_done (totalling found refused size) after ≡ list_of q flags old → Bytes q.pattern.cells
     → (r : Checked) → checked_said r ≡ check_of q (take size after) → r ≡ kept found refused
 list_then_check q flags old after found refused size lists bytes r checks =
     accepts_all q (take size after) r checks bytes found refused (
@@ -153,7 +152,7 @@ checked_columns q listing found refused checks bytes row column c =
     bytes.1
 
 pub searched_columns : (q : Question) (l after : Lent) (found refused size : ℕ)
-    (searches : done (Listed found refused size) after ≡ search_of q l)
+    (searches : done (totalling found refused size) after ≡ search_of q l)
     (bytes : Bytes q.text.cells × Bytes q.pattern.cells)
     (row column : ℕ) → CornerIn q row column
     → (times_found (records_of q (demand_3.1 q l after found refused size searches bytes.1).0 found refused) row column
@@ -164,7 +163,7 @@ searched_columns q l after found refused size searches bytes row column c =
     found_columns q (take size after.listing) found refused (d.0, d.1) row column c bytes.0 bytes.1
 
 pub listed_columns : (q : Question) (flags old after : List ℕ) (found refused size : ℕ)
-    (lists : list_done (Listed found refused size) after ≡ list_of q flags old)
+    (lists : list_done (totalling found refused size) after ≡ list_of q flags old)
     (bytes : Bytes q.text.cells × Bytes q.pattern.cells)
     (row column : ℕ) → CornerIn q row column
     → (times_found (records_of q (demand_3.2 q flags old after found refused size lists bytes.1).0 found refused) row column

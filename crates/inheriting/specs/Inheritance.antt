@@ -9,8 +9,10 @@ use Rattle.std.specs.Prelude.{◌≡◌, List, ℕ, ◌-◌, ◌*◌, ◌≤◌,
 use Rattle.theory.specs.Match.{first_end}
 use Rattle.cells.specs.Windows.{window_at}
 use Rattle.matching.specs.Compare.{cell_of_pattern}
+use Rattle.matching.specs.declared.compared.Compared.{Compared}
 use Rattle.prefixes.specs.Prefixes.{suffix}
-use Rattle.sweep.specs.Sweep.{SidesOf}
+use Rattle.rows.specs.declared.run.FirstEnd.{FirstEnd}
+use Rattle.sweep.specs.Sweep.{own_at, SidesOf}
 use Rattle.inheriting.specs.Offsets.{Prepared}
 use Rattle.inheriting.specs.declared.tables.Tables.{Tables}
 
@@ -31,24 +33,34 @@ pub record Tops (text pattern : List ℕ) (columns height width : ℕ) (tops : L
       → Follows (cell_of_pattern pattern) (window_at text columns row j width) (height * width)
 
 -- the pattern's own ends, row by row
-pub record OwnEndsMade (pattern : List ℕ) (height width : ℕ) (selves : List ℕ) : Type 0 where
-  pub long : length selves ≡ 256
-  pub each : (k : ℕ) → k < height → get_or selves k 0 ≡ own_end_of pattern (k * width)
+pub record OwnEndsMade (pattern : List ℕ) (height width : ℕ) (own : List FirstEnd) : Type 0 where
+  pub long : length own ≡ 256
+  pub each : (k : ℕ) → k < height → (own_at own k).end ≡ own_end_of pattern (k * width)
 
 -- they are made where own end 0 is not 0, and else not yet
-pub record OwnEndsIfMade (pattern : List ℕ) (height width : ℕ) (selves : List ℕ) : Type 0 where
-  pub long : length selves ≡ 256
-  pub made : 0 < get_or selves 0 0 → OwnEndsMade pattern height width selves
+pub record OwnEndsIfMade (pattern : List ℕ) (height width : ℕ) (own : List FirstEnd) : Type 0 where
+  pub long : length own ≡ 256
+  pub made : 0 < (own_at own 0).end → OwnEndsMade pattern height width own
 
 -- what the windows so far leave to those below them
-pub record Above (text pattern : List ℕ) (columns height width : ℕ) (selves : List ℕ) (tops : List (Option ℕ)) : Type 0
+pub record Above (text pattern : List ℕ) (columns height width : ℕ) (own : List FirstEnd) (tops : List (Option ℕ)) : Type 0
   where
     pub sides : SidesOf pattern height width
     pub narrow : columns ≤ 255
     pub tops_are : Tops text pattern columns height width tops
-    pub owned : OwnEndsIfMade pattern height width selves
+    pub owned : OwnEndsIfMade pattern height width own
+
+-- the same of the text and the pattern of a window that is compared
+abbrev pub AboveSeen : Compared → List FirstEnd → List (Option ℕ) → Type 0
+AboveSeen c own tops =
+    Above c.window.text.now c.pattern.now c.window.place.columns c.window.place.height c.window.place.width own tops
 
 -- what the tables say that are lent from window to window: those of the windows above, and the offsets
 pub record CheckTables (text pattern : List ℕ) (columns height width : ℕ) (tables : Tables) : Type 0 where
-  pub above : Above text pattern columns height width tables.selves tables.tops
+  pub above : Above text pattern columns height width tables.own tables.tops
   pub prepared : Prepared pattern columns width tables.offsets
+
+-- the same of the text and the pattern of a window that is compared
+abbrev pub TablesSeen : Compared → Tables → Type 0
+TablesSeen c tables =
+    CheckTables c.window.text.now c.pattern.now c.window.place.columns c.window.place.height c.window.place.width tables

@@ -1,3 +1,4 @@
 pub mod Inheritance
 pub mod Carries
 pub mod Offsets
+pub mod Images

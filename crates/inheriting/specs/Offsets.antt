@@ -2,27 +2,23 @@
 -- for all windows, so a window's symbol in that place, the symbol's image, is one read of the text.
 -- Assumes nothing.
 pub mod Laws
-use Rattle.std.specs.Prelude.{◌≡◌, List, ℕ, ◌+◌, ◌*◌, ◌<◌, length, get_or, Option, Some}
-use Rattle.matching.specs.Compare.{cell_of_pattern}
-use Rattle.prefixes.specs.State.{FirstPlaces}
+use Rattle.std.specs.Prelude.{◌≡◌, List, ℕ, ◌+◌, ◌<◌, eqb, length, get_or, Option, Some}
+use Rattle.theory.specs.First.{first}
 use Rattle.cells.specs.Windows.{offset_of}
-use Rattle.cells.specs.declared.windows.WindowPlace.{WindowPlace}
-
--- where a window's corner lies in the text
-abbrev pub corner_of : WindowPlace → ℕ
-corner_of v = v.row * v.columns + v.column
 
 -- what stands as far behind the corner as the symbol's offset says
 abbrev pub image_from_behind : List ℕ → ℕ → List ℕ → ℕ → ℕ
 image_from_behind text corner offsets a = get_or text (corner + get_or offsets a 0) 0
 
+-- the first place at which a pattern has a symbol
+unfoldable pub first_place : List ℕ → ℕ → ℕ
+first_place pattern a = first (λ k. eqb (get_or pattern k 0) a) (length pattern)
+
 -- for each of the pattern's symbols, how far its first place lies behind a window's corner
 pub record Offsets (pattern : List ℕ) (columns width : ℕ) (offsets : List ℕ) : Type 0 where
-  pub first : List ℕ
-  pub places : FirstPlaces (cell_of_pattern pattern) (length pattern) first
   pub long : length offsets ≡ 256
   pub lead : (p : ℕ) → p < length pattern
-      → get_or offsets (get_or pattern p 0) 0 ≡ offset_of columns width (get_or first (get_or pattern p 0) 0)
+      → get_or offsets (get_or pattern p 0) 0 ≡ offset_of columns width (first_place pattern (get_or pattern p 0))
 
 -- they are right where they are made
 pub record Prepared (pattern : List ℕ) (columns width : ℕ) (offsets : Option (List ℕ)) : Type 0 where

@@ -1,13 +1,15 @@
 // What a found window inherits from a carried window above it in its strip: all rows but those that are new.
 // The pattern is held against itself only when a window that can inherit is met, and once for all windows.
 ghost use Rattle.std.specs.Prelude.{◌≡◌, ◌*◌, ◌≤◌, ◌<◌, length};
-ghost use Rattle.matching.specs.Compare.{cell_of_pattern, window_of, cell_count, Placed};
+ghost use Rattle.matching.specs.Compared.{pattern_seen, window_seen};
 ghost use Rattle.sweep.specs.Sweep.{SidesOf};
-ghost use Rattle.inheriting.specs.Inheritance.{Follows, own_end_of, OwnEndsMade, OwnEndsIfMade, Above};
+ghost use Rattle.inheriting.specs.Inheritance.{Follows, own_end_of, OwnEndsMade, OwnEndsIfMade, AboveSeen};
 
 use cells::windows::WindowPlace;
-use placed::placing::AS_IT_IS;
-use rows::places::{first_places, no_positions};
+use matching::compared::Compared;
+use placed::pattern::Pattern;
+use rows::run::FirstEnd;
+use shapes::tables::table;
 use sweep::own::own_ends;
 
 // The first end of the pattern's rows from k on against the pattern itself. All of them are made when one is first
@@ -16,57 +18,43 @@ fn own_end(
     pattern: &[u8],
     height: usize,
     width: usize,
-    selves: &mut [usize; 256],
+    own: &mut [FirstEnd; 256],
     k: usize,
 ) -> usize
-    requires { SidesOf pattern.now height width × OwnEndsIfMade pattern.now height width selves.old × (k < height) }
+    requires { SidesOf pattern.now height width × OwnEndsIfMade pattern.now height width own.old × (k < height) }
     ensures value { result ≡ own_end_of pattern.now (k * width) }
-    ensures own_ends_made { OwnEndsMade pattern.now height width selves.new }
+    ensures own_ends_made { OwnEndsMade pattern.now height width own.new }
 {
-    if 0 < selves[0] {
-        return selves[k];
+    if 0 < own[0].end {
+        return own[k].end;
     }
-    let mut first = no_positions();
-    let mut earlies = no_positions();
-    first_places(pattern, &mut first);
-    own_ends(
-        pattern,
-        AS_IT_IS,
-        height,
-        width,
-        height,
-        height,
-        &first,
-        selves,
-        &mut earlies,
-    );
-    selves[k]
+    let mut first = table(0);
+    pattern.first_places(&mut first);
+    own_ends(pattern, height, width, height, height, &first, own);
+    own[k].end
 }
 
 // How many rows of the window follow the pattern because the carried window above that was kept does: all but the last
 // k, where that one lies k rows further up and the pattern's rows from k on have no mismatch with its first rows; else
 // none. Where the pattern matches both windows, the lower one always inherits so.
-pub fn inherited_rows(
-    text: &[u8],
-    v: WindowPlace,
-    pattern: &[u8],
-    selves: &mut [usize; 256],
-    tops: &[Option<usize>; 256],
-) -> usize
-    requires { Placed text.now v × (length pattern.now ≡ cell_count v)
-        × Above text.now pattern.now v.columns v.height v.width selves.old tops.now }
-    ensures inherited { (result ≤ v.height)
-        × Follows (cell_of_pattern pattern.now) (window_of text.now v) (result * v.width) }
-    ensures above { Above text.now pattern.now v.columns v.height v.width selves.new
-        tops.now }
+pub fn inherited_rows(c: Compared, own: &mut [FirstEnd; 256], tops: &[Option<usize>; 256]) -> usize
+    requires { AboveSeen c own.old tops.now }
+    ensures inherited { let v = c.entry.window.place in
+        (result ≤ v.height) × Follows (pattern_seen c.entry) (window_seen c.entry) (result * v.width) }
+    ensures above { AboveSeen c.entry own.new tops.now }
 {
+    let Compared {
+        window,
+        pattern,
+        ..
+    } = c;
     let WindowPlace {
         row,
         column,
         height,
         width,
         ..
-    } = v;
+    } = window.place;
     let Some(above) = tops[column] else {
         return 0;
     };
@@ -77,7 +65,7 @@ pub fn inherited_rows(
     if height <= k {
         return 0;
     }
-    let end = own_end(pattern, height, width, selves, k);
+    let end = own_end(pattern, height, width, own, k);
     if end < pattern.len() - k * width {
         return 0;
     }

@@ -2,6 +2,7 @@
 // Parts of the check, and no operations of their own.
 #![tactic(auto)]
 
+pub mod images;
 pub mod inherit;
 pub mod offsets;
 pub mod tables;

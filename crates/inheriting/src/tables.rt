@@ -1,8 +1,8 @@
 // What the check keeps from window to window. The tables lie in one place and are lent whole; nothing in them is copied.
 ghost use Rattle.std.specs.Prelude.{◌≡◌, replicate, None};
 
-use rows::places::no_positions;
-use shapes::tables::no_entries;
+use rows::run::FirstEnd;
+use shapes::tables::table;
 
 #[derive(Drop)]
 pub struct Tables {
@@ -11,16 +11,9 @@ pub struct Tables {
     // how far the first place of each of the pattern's symbols lies behind a window's corner, once that is asked for
     pub offsets: Option<[usize; 256]>,
     // the pattern's own ends; not made yet where the first is 0
-    pub selves: [usize; 256],
+    pub own: [FirstEnd; 256],
     // for each column the row of the last window there that has one symbol for each of the pattern's
     pub tops: [Option<usize>; 256],
-}
-
-// No window yet.
-fn no_tops() -> [Option<usize>; 256]
-    ensures { result ≡ replicate 256 None }
-{
-    [None; 256]
 }
 
 impl Tables {
@@ -28,14 +21,14 @@ impl Tables {
     pub fn new() -> Tables
         ensures given { result.given ≡ replicate 256 0 }
         ensures offsets { result.offsets ≡ None }
-        ensures selves { result.selves ≡ replicate 256 0 }
+        ensures own { result.own ≡ replicate 256 (record { end = 0; earlier = 0 }) }
         ensures tops { result.tops ≡ replicate 256 None }
     {
         Tables {
-            given: no_entries(),
+            given: table(0),
             offsets: None,
-            selves: no_positions(),
-            tops: no_tops(),
+            own: table(FirstEnd { end: 0, earlier: 0 }),
+            tops: table(None),
         }
     }
 }

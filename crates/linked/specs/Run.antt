@@ -5,13 +5,15 @@
 -- ensures holds of whatever strip the links are of.
 -- Assumes nothing.
 pub mod Laws
-use Rattle.std.specs.Prelude.{◌≡◌, Bool, true, false, List, ℕ, ◌+◌, ◌-◌, ◌*◌, ◌≤◌, ◌<◌, eqb, ltb, length, get_or}
-use Rattle.theory.specs.Test.{pick}
+use Rattle.std.specs.Prelude.{◌≡◌, Bool, true, false, List, ℕ, ◌+◌, ◌-◌, ◌*◌, ◌≤◌, ◌<◌, eqb, leb, ltb, length, get_or}
+use Rattle.theory.specs.Test.{pick, both}
 use Rattle.theory.specs.Match.{ends, first_end}
 use Rattle.grid.specs.Strips.{link}
 use Rattle.prefixes.specs.Prefixes.{suffix}
 use Rattle.prefixes.specs.State.{FirstPlaces}
-use Rattle.linked.specs.declared.run.Run.{Run}
+use Rattle.rows.specs.declared.run.FirstEnd.{FirstEnd}
+use Rattle.rows.specs.declared.run.Run.{Run}
+use Rattle.linked.specs.declared.run.RunEnd.{RunEnd}
 use Rattle.linked.specs.declared.run.RunFlag.{RunFlag}
 
 -- no mismatch of the window at place i ends before place e
@@ -25,8 +27,7 @@ LinksFrom t links i n = (p : ℕ) → p < n → get_or links (i + p) 0 ≡ link 
 -- the code's test: d is the link of the window's place, a the pattern's symbol at p
 unfoldable pub linked_test : List ℕ → List ℕ → ℕ → ℕ → ℕ → Bool
 linked_test pattern first p d a =
-    pick (ltb p d) (eqb (get_or first a 0) p)
-    (pick (ltb 0 d) (eqb (get_or pattern (p - d) 0) a) (eqb (get_or first a 0) p))
+    pick (both (ltb 0 d) (leb d p)) (eqb (get_or pattern (p - d) 0) a) (eqb (get_or first a 0) p)
 
 -- what a comparison asks: the window begins at start of its strip, and is compared from position from on
 pub record CompareAt (pattern first links : List ℕ) (start from : ℕ) : Type 0 where
@@ -48,31 +49,37 @@ pub record EndsBy (pattern links : List ℕ) (start from p : ℕ) : Type 0 where
   pub hit : (t : ℕ → ℕ) → LinksFrom t links start (length pattern) → ClearTo pattern t start (start + from)
       → p < length pattern → ends (λ k. get_or pattern k 0) (suffix t start) p ≡ true
 
+-- own end k
+abbrev pub end_at : List FirstEnd → ℕ → ℕ
+end_at own k = (get_or own k (record { end = 0; earlier = 0 })).end
+
 -- the first ends of the pattern's rows from row k on against the pattern, for each k below n
-pub record OwnEnds (pattern : List ℕ) (width n : ℕ) (selves : List ℕ) : Type 0 where
-  pub long : length selves ≡ 256
+pub record OwnEnds (pattern : List ℕ) (width n : ℕ) (own : List FirstEnd) : Type 0 where
+  pub long : length own ≡ 256
   pub each : (k : ℕ) → k < n → k * width < length pattern
-      → get_or selves k 0
+      → end_at own k
       ≡ first_end (λ p. get_or pattern p 0) (suffix (λ p. get_or pattern p 0) (k * width)) (length pattern - k * width)
 
 -- what is asked of the window at row top
-pub record WindowAsked (pattern first selves links : List ℕ) (width row reached top : ℕ) : Type 0 where
+pub record WindowAsked (pattern first : List ℕ) (own : List FirstEnd) (links : List ℕ) (width : ℕ) (run : Run)
+    (top : ℕ) : Type 0 where
   pub some : 0 < length pattern
   pub places : FirstPlaces (λ k. get_or pattern k 0) (length pattern) first
-  pub owns : OwnEnds pattern width (top + 1) selves
+  pub owns : OwnEnds pattern width (top + 1) own
   pub room : top * width + length pattern ≤ length links
   pub small : top * width + length pattern ≤ 65025
   pub top_small : top ≤ 255
-  pub past : row ≤ top
-  pub fits : reached ≤ row * width + length pattern
+  pub past : run.row ≤ top
+  pub fits : run.reached ≤ run.row * width + length pattern
 
 -- its first end, and where the run stands behind it
-pub record WindowEnds (pattern links : List ℕ) (width row reached top : ℕ) (r : Run) : Type 0 where
-  pub past : r.row ≤ top
-  pub fits : r.reached ≤ r.row * width + length pattern
-  pub clear : (t : ℕ → ℕ) → LinksFrom t links (top * width) (length pattern) → ClearTo pattern t (row * width) reached
-      → ClearTo pattern t (r.row * width) r.reached
-  pub end_is : (t : ℕ → ℕ) → LinksFrom t links (top * width) (length pattern) → ClearTo pattern t (row * width) reached
+pub record WindowEnds (pattern links : List ℕ) (width : ℕ) (run : Run) (top : ℕ) (r : RunEnd) : Type 0 where
+  pub past : r.run.row ≤ top
+  pub fits : r.run.reached ≤ r.run.row * width + length pattern
+  pub clear : (t : ℕ → ℕ) → LinksFrom t links (top * width) (length pattern)
+      → ClearTo pattern t (run.row * width) run.reached → ClearTo pattern t (r.run.row * width) r.run.reached
+  pub end_is : (t : ℕ → ℕ) → LinksFrom t links (top * width) (length pattern)
+      → ClearTo pattern t (run.row * width) run.reached
       → r.end ≡ first_end (λ k. get_or pattern k 0) (suffix t (top * width)) (length pattern)
 
 -- the flag by the count and the first end
@@ -82,11 +89,12 @@ flag_by_end pattern symbols count w =
     (pick (ltb (first_end (λ k. get_or pattern k 0) w (length pattern)) (length pattern)) 0 1) 0
 
 -- the window's flag, and where the run stands behind it; links are asked for only where the counts are equal
-pub record WindowFlagged (pattern : List ℕ) (symbols count : ℕ) (links : List ℕ) (width row reached top : ℕ)
+pub record WindowFlagged (pattern : List ℕ) (symbols count : ℕ) (links : List ℕ) (width : ℕ) (run : Run) (top : ℕ)
     (r : RunFlag) : Type 0 where
-  pub past : r.row ≤ top
-  pub fits : r.reached ≤ r.row * width + length pattern
+  pub past : r.run.row ≤ top
+  pub fits : r.run.reached ≤ r.run.row * width + length pattern
   pub clear : (t : ℕ → ℕ) → (count ≡ symbols → LinksFrom t links (top * width) (length pattern))
-      → ClearTo pattern t (row * width) reached → ClearTo pattern t (r.row * width) r.reached
+      → ClearTo pattern t (run.row * width) run.reached → ClearTo pattern t (r.run.row * width) r.run.reached
   pub flag_is : (t : ℕ → ℕ) → (count ≡ symbols → LinksFrom t links (top * width) (length pattern))
-      → ClearTo pattern t (row * width) reached → r.flag ≡ flag_by_end pattern symbols count (suffix t (top * width))
+      → ClearTo pattern t (run.row * width) run.reached
+      → r.flag ≡ flag_by_end pattern symbols count (suffix t (top * width))

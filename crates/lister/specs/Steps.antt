@@ -1,130 +1,83 @@
 -- What List says and leaves, refusal by refusal: before the flags are looked at, by 16, by 11; and where there is room,
 -- the listing.
 -- Assumes nothing.
-use Rattle.std.specs.Prelude.{◌≡◌, true, List, [], ◌∷◌, ℕ, ◌*◌, ◌≤◌, leb, length}
-use Rattle.std.proofs.Math.Path.{refl, ap}
-use Rattle.std.proofs.Common.{sym, ◌∙◌}
+use Rattle.std.specs.Prelude.{Ok, Err, ◌≡◌, List, [], ◌∷◌, ℕ, ◌≤◌, ◌<◌, leb, length, get_or}
+use Rattle.std.proofs.Common.{sym, ap, arith}
 use Rattle.theory.specs.Test.Laws.{le_tested, says_true}
-use Rattle.refusals.specs.Refusals.{number_of, values_of}
-use Rattle.refusals.specs.Said.{Said, accepts, ◌then◌, check, check_with, over_front, filled_by, outcome_said}
-use Rattle.refusals.specs.Said.Laws.{check_true, not_accepted}
+use Rattle.refusals.specs.Said.{Said, accepts, ◌then◌, check, check_with, over_front, filled_by, refusal_said}
+use Rattle.refusals.specs.Said.Laws.{check_true}
 use Rattle.refusals.specs.declared.refusals.Refusal.{Refusal}
-use Rattle.refusals.specs.declared.refusals.Outcome.{Outcome}
-use Rattle.refusals.specs.declared.refusals.Outcome.TheVariants.{Accepted, Refused as RefusedOutcome}
 use Rattle.shapes.specs.Questions.{Question, Posed, asked, windows_of}
-use Rattle.shapes.specs.Shapes.{across, down}
 use Rattle.shapes.specs.declared.shapes.Shape.{Shape}
-use Rattle.occurrences.specs.Distinct.{distinct}
 use Rattle.flags.specs.Flags.{flags_truth}
 use Rattle.flags.specs.Flags.Laws.{flags_true_tested}
-use Rattle.entries.specs.Listing.{found_in, refused_in, listing_length, needed_length, search_listing}
-use Rattle.entries.specs.Listing.Totals.{ones, others}
+use Rattle.entries.specs.Listing.{needed_length, search_listing}
+use Rattle.entries.specs.Listing.Length.{length_listing}
+use Rattle.entries.specs.Listing.Totals.{totals_in}
+use Rattle.listing.specs.declared.totals.Totals.{Totals}
 use Rattle.passes.specs.Windows.{Flagged}
 use Rattle.rooms.specs.Rooms.{flags_room_said}
-use Rattle.totals.specs.Totalled.{Totalled, totalled}
-use Rattle.totals.specs.declared.totals.Totals.{Totals}
 use Rattle.searched.specs.Search.{listed_said, list_said, list_done, list_of}
-use Rattle.searched.specs.declared.answer.Searched.TheVariants.{Listed, Refused}
 
--- What the inner functions' contracts cite.
+-- ---- 11, then the listing
 
--- flags that were judged, and totals: where nothing is refused the flags are those of all windows, and the totals are
--- theirs
-pub record Trusted (text pattern : List ℕ) (s : Shape) (judged : Outcome) (flags : List ℕ) (t : Totals) : Type 0 where
-  pub flagged : judged ≡ Accepted → Flagged text pattern s flags
-  pub totalled : judged ≡ Accepted → Totalled text pattern s t.found t.refused t.length
+module _ (q : Question) (totals : Totals ℕ) (is : totals ≡ totals_in q) (listing : List ℕ) where
+  -- 11, by the totals
+  abbrev room_said : Said
+  room_said = check_with (leb totals.length (length listing)) 11 (totals.length ∷ [])
 
--- ---- what was judged, then 11, then the listing
+  size_is : totals.length ≡ needed_length q
+  size_is = ap (λ (t : Totals ℕ). t.length) is
 
-module _ (text pattern : List ℕ) (s : Shape) (judged : Outcome) (flags : List ℕ) (t : Totals)
-    (trust : Trusted text pattern s judged flags t) (listing : List ℕ) (outcome : Outcome)
-    (chain : outcome_said outcome
-    ≡ outcome_said judged then check_with (leb t.length (length listing)) 11 (t.length ∷ [])) where
-  abbrev q : Question
-  q = asked text pattern s
-
-  -- nothing is refused only if the flags were not, and there is room
-  pub passed : outcome ≡ Accepted → (judged ≡ Accepted) × (t.length ≤ length listing)
-  passed e = go judged refl (sym chain ∙ ap outcome_said e)
-    where
-      go : (o : Outcome) → judged ≡ o
-          → outcome_said o then check_with (leb t.length (length listing)) 11 (t.length ∷ []) ≡ accepts []
-          → (judged ≡ Accepted) × (t.length ≤ length listing)
-      go Accepted d c = (d, says_true (le_tested t.length (length listing)) (check_true _ 11 (t.length ∷ []) [] c))
-      go (RefusedOutcome why) d c = absurd (not_accepted (number_of why) (values_of why) [] c)
-
-  -- the chain is List's from there on
-  said_is : outcome_said judged then listed_said q (length listing)
-      ≡ outcome_said outcome then accepts (found_in q ∷ refused_in q ∷ needed_length q ∷ [])
+  pub listing_stopped : (why : Refusal) → refusal_said why ≡ room_said
+      → list_done (Err why) listing ≡ filled_by (listed_said q (length listing)) (search_listing q) listing
   unfolding listed_said
-  said_is = go judged refl ∙ ap (λ (a : Said). a then accepts (found_in q ∷ refused_in q ∷ needed_length q ∷ [])) (sym chain)
-    where
-      go : (o : Outcome) → judged ≡ o
-          → outcome_said judged then listed_said q (length listing)
-          ≡ (outcome_said judged then check_with (leb t.length (length listing)) 11 (t.length ∷ []))
-          then accepts (found_in q ∷ refused_in q ∷ needed_length q ∷ [])
-      go Accepted d = rw ((trust.totalled d).size_is, d)
-      go (RefusedOutcome why) d = rw d
+  listing_stopped why e = rw (← size_is, ← e)
 
-  -- refused
-  pub listing_stopped : (why : Refusal) → outcome ≡ RefusedOutcome why
-      → list_done (Refused why) listing
-      ≡ filled_by (outcome_said judged then listed_said q (length listing)) (search_listing q) listing
-  listing_stopped why e = rw (said_is, e)
+  pub listing_fits : ((k : ℕ) → get_or q.pattern.cells k 0 < 256) → accepts [] ≡ room_said
+      → length (search_listing q) ≤ length listing
+  listing_fits bytes e =
+      omega (
+        arith,
+        size_is,
+        length_listing q bytes,
+        says_true (le_tested totals.length (length listing)) (check_true _ 11 (totals.length ∷ []) [] (sym e)),
+      )
 
-  -- or written
-  pub listing_written : outcome ≡ Accepted → (after : List ℕ) → after ≡ over_front (search_listing q) listing
-      → list_done (Listed t.found t.refused t.length) after
-      ≡ filled_by (outcome_said judged then listed_said q (length listing)) (search_listing q) listing
-  listing_written e after w =
-      let z = trust.totalled (passed e).0 in
-      rw (said_is, e, w, z.found_is, z.refused_is, z.size_is)
+  pub listing_written : accepts [] ≡ room_said → (after : List ℕ) → after ≡ over_front (search_listing q) listing
+      → list_done (Ok totals) after ≡ filled_by (listed_said q (length listing)) (search_listing q) listing
+  unfolding listed_said
+  listing_written e after w = rw (← size_is, ← e, w, is)
 
 -- ---- the flags
 
 -- flags that are the truth are the flags of all windows
 pub flags_flagged : (text pattern : List ℕ) (s : Shape) (flags : List ℕ) → Posed (asked text pattern s)
-    → windows_of (asked text pattern s) ≤ length flags → flags_truth (asked text pattern s) flags ≡ true
+    → windows_of (asked text pattern s) ≤ length flags
+    → accepts [] ≡ check (flags_truth (asked text pattern s) flags) 16
     → Flagged text pattern s flags
 flags_flagged text pattern s flags p room e =
     record {
       shape = p.shape;
       size = p.size;
       flags_room = room;
-      flags_are = says_true (flags_true_tested (asked text pattern s) flags) e;
+      flags_are =
+          says_true (flags_true_tested (asked text pattern s) flags)
+          (check_true (flags_truth (asked text pattern s) flags) 16 [] [] (sym e));
     }
-
--- an outcome that says 16 where they are not
-pub flags_trusted : (text pattern : List ℕ) (s : Shape) (judged : Outcome) (flags : List ℕ) (t : Totals)
-    → Posed (asked text pattern s) → windows_of (asked text pattern s) ≤ length flags
-    → outcome_said judged ≡ check (flags_truth (asked text pattern s) flags) 16
-    → t.found ≡ ones flags (down s * across s) → t.refused ≡ others flags (down s * across s)
-    → t.length ≡ listing_length t.found t.refused (distinct pattern)
-    → Trusted text pattern s judged flags t
-flags_trusted text pattern s judged flags t p room is a b e =
-    record {
-      flagged = there;
-      totalled = λ d. totalled text pattern s flags (there d).flags_are t.found t.refused t.length a b e;
-    }
-  where
-    there : judged ≡ Accepted → Flagged text pattern s flags
-    there d =
-        flags_flagged text pattern s flags p room
-        (check_true (flags_truth (asked text pattern s) flags) 16 [] [] (sym is ∙ ap outcome_said d))
 
 -- ---- before the flags are looked at
 
 module _ (q : Question) (flags listing : List ℕ) where
   -- refused
-  pub list_stopped : (o : Outcome) (why : Refusal) → o ≡ RefusedOutcome why
-      → outcome_said o ≡ flags_room_said q (length flags)
-      → list_done (Refused why) listing ≡ list_of q flags listing
+  pub list_stopped : (why : Refusal) → refusal_said why ≡ flags_room_said q (length flags)
+      → list_done (Err why) listing ≡ list_of q flags listing
   unfolding list_of list_said
-  list_stopped o why e d = rw (← d, e)
+  list_stopped why e = rw (← e)
 
   -- else the flags decide
-  pub list_goes_on : flags_room_said q (length flags) ≡ accepts []
+  pub list_goes_on : accepts [] ≡ flags_room_said q (length flags)
       → filled_by (check (flags_truth q flags) 16 then listed_said q (length listing)) (search_listing q) listing
       ≡ list_of q flags listing
   unfolding list_of list_said
-  list_goes_on e = rw e
+  list_goes_on e = rw (← e)

@@ -3,163 +3,101 @@
 ghost use Rattle.std.specs.Prelude.{◌≡◌, ◌*◌, ◌≤◌, length};
 ghost use Rattle.theory.specs.Bytes.{Bytes};
 ghost use Rattle.refusals.specs.Said.{◌then◌, check, filled_by, outcome_said};
-ghost use Rattle.shapes.specs.Questions.{ask, asked, windows_of, Posed};
+ghost use Rattle.shapes.specs.Questions.{asked, question_in, windows_of, Posed};
 ghost use Rattle.shapes.specs.Shapes.{across, down};
-ghost use Rattle.sets.specs.Symbols.{symbols_of};
-ghost use Rattle.prefixes.specs.State.{FirstPlaces};
-ghost use Rattle.matching.specs.Compare.{cell_of_pattern};
 ghost use Rattle.sweep.specs.Sweep.{OwnSoFar, SweepAt};
 ghost use Rattle.flags.specs.Flags.{flags_truth};
 ghost use Rattle.entries.specs.Listing.{search_listing};
+ghost use Rattle.entries.specs.Listing.Totals.{totals_in};
+ghost use Rattle.passes.specs.Windows.{Flagged};
 ghost use Rattle.searched.specs.Search.{listed_said, list_done, list_of};
-ghost use Rattle.lister.specs.Steps.{Trusted};
-ghost use Rattle.placed.specs.Placing.{placed};
 
-use placed::placing::{AS_IT_IS, Placing};
-use refusals::refusals::{Outcome, Reason, Refusal, outcome_then};
+use listing::totals::Totals;
+use placed::pattern::Pattern;
+use refusals::refusals::{Reason, Refusal};
 use rooms::rooms::{flags_room_outcome, listing_room_outcome};
-use rows::places::no_positions;
-use searched::answer::Searched;
+use rows::run::FirstEnd;
+use shapes::question::Question;
 use shapes::shapes::Shape;
-use shapes::tables::no_symbols;
-use totals::pattern::read_pattern;
-use totals::totals::{Totals, totals_of};
+use shapes::tables::table;
+use totals::pattern::{Known, read_pattern};
+use totals::totals::totals_of;
 use truth::strips::flags_true;
 use writer::writing::write_listing;
 
-// What List does once the flags are judged, and what the search ends with: where nothing was refused before, 11, or
-// the listing. First places are copied, as in `count_flagged`. The tables of own ends are of no use to anyone
-// afterwards, and nothing is said of them.
-pub fn list_flagged(
+// What List does once the flags are known to be the truth, and what the search ends with: 11, or the listing. The table
+// of own ends is of no use to anyone afterwards, and nothing is said of it.
+pub fn list_flagged<P: Pattern>(
     text: &[u8],
-    pattern: &[u8],
-    g: Placing,
+    known: &Known<P>,
     s: Shape,
-    listed: &[u8],
-    first: &[usize; 256],
-    selves: &mut [usize; 256],
-    earlies: &mut [usize; 256],
-    judged: Outcome,
-    totals: Totals,
+    own: &mut [FirstEnd; 256],
+    totals: Totals<u16>,
     flags: &[u8],
     listing: &mut [u8],
-) -> Searched
-    requires { Trusted text.now (placed pattern.now g) s judged flags.now totals
-        × (listed.now ≡ symbols_of (placed pattern.now g))
-        × FirstPlaces (cell_of_pattern (placed pattern.now g)) (length (placed pattern.now g)) first.now
-        × OwnSoFar (placed pattern.now g) s.width (down s) selves.old earlies.old }
+) -> Result<Totals<u16>, Refusal>
+    requires { Flagged text.now (P.cells known.now.pattern) s flags.now
+        × (totals ≡ totals_in (asked text.now (P.cells known.now.pattern) s))
+        × OwnSoFar (P.cells known.now.pattern) s.width (down s) own.old }
     ensures { list_done result listing.new
-        ≡ filled_by
-        (outcome_said judged
-        then listed_said (asked text.now (placed pattern.now g) s) (length listing.old))
-        (search_listing (asked text.now (placed pattern.now g) s)) listing.old }
+        ≡ filled_by (listed_said (asked text.now (P.cells known.now.pattern) s) (length listing.old))
+        (search_listing (asked text.now (P.cells known.now.pattern) s)) listing.old }
 {
-    let found = totals.found;
-    let refused = totals.refused;
-    let length = totals.length;
-    let places = *first;
-    let outcome = outcome_then(judged, listing_room_outcome(listing.len(), length));
-    match outcome {
-        Outcome::Refused(why) => Searched::Refused(why),
-        Outcome::Accepted => {
-            write_listing(
-                text, pattern, g, s, listed, &places, selves, earlies, found, refused, flags,
-                listing,
-            );
-            Searched::Listed {
-                found,
-                refused,
-                length,
-            }
-        }
-    }
+    listing_room_outcome(listing.len(), totals.length)?;
+    write_listing(text, known, s, own, totals, flags, listing);
+    Ok(totals)
 }
 
-// Whether flags are refused: by 16 where they are not the truth.
-fn truth_outcome(
+// 16: the flags are not the truth.
+fn truth_outcome<P: Pattern>(
     text: &[u8],
-    pattern: &[u8],
+    known: &Known<P>,
     s: Shape,
-    first: &[usize; 256],
-    selves: &mut [usize; 256],
-    earlies: &mut [usize; 256],
+    own: &mut [FirstEnd; 256],
     flags: &[u8],
-) -> Outcome
-    requires { SweepAt text.now s pattern.now first.now selves.old earlies.old
+) -> Result<(), Refusal>
+    requires { SweepAt text.now s (P.cells known.now.pattern) known.now.first own.old
         × (down s * across s ≤ length flags.now) }
-    ensures result_value { outcome_said result
-        ≡ check (flags_truth (asked text.now pattern.now s) flags.now) 16 }
-    ensures own_so_far { OwnSoFar pattern.now s.width (down s) selves.new earlies.new }
+    ensures judged { outcome_said result
+        ≡ check (flags_truth (asked text.now (P.cells known.now.pattern) s) flags.now) 16 }
+    ensures own_so_far { OwnSoFar (P.cells known.now.pattern) s.width (down s) own.new }
 {
-    if flags_true(text, pattern, AS_IT_IS, s, first, selves, earlies, flags) {
-        return Outcome::Accepted;
-    }
-    Outcome::Refused(Refusal::Plain(Reason::FlagsFalse))
+    let pattern = known.pattern;
+    let first = known.first;
+    Reason::FlagsFalse.unless(flags_true(text, pattern, s, &first, own, flags))
 }
 
 // List where 2, 3, 4 and 10 refuse nothing: 16, then 11, or the listing. The totals of flags that are not the truth are
 // of no use to anyone, and are not looked at.
-fn list_posed(text: &[u8], pattern: &[u8], s: Shape, flags: &[u8], listing: &mut [u8]) -> Searched
-    requires { Posed (asked text.now pattern.now s)
-        × (windows_of (asked text.now pattern.now s) ≤ length flags.now) }
+fn list_posed<P: Pattern>(
+    text: &[u8],
+    pattern: P,
+    s: Shape,
+    flags: &[u8],
+    listing: &mut [u8],
+) -> Result<Totals<u16>, Refusal>
+    requires { Posed (asked text.now (P.cells pattern) s)
+        × (windows_of (asked text.now (P.cells pattern) s) ≤ length flags.now) }
     ensures { list_done result listing.new
         ≡ filled_by
-        (check (flags_truth (asked text.now pattern.now s) flags.now) 16
-        then listed_said (asked text.now pattern.now s) (length listing.old))
-        (search_listing (asked text.now pattern.now s)) listing.old }
+        (check (flags_truth (asked text.now (P.cells pattern) s) flags.now) 16
+        then listed_said (asked text.now (P.cells pattern) s) (length listing.old))
+        (search_listing (asked text.now (P.cells pattern) s)) listing.old }
 {
-    let n = (s.rows + 1 - s.height) * (s.columns + 1 - s.width);
-    let mut first = no_positions();
-    let mut listed = no_symbols();
-    let symbols = read_pattern(pattern, AS_IT_IS, &mut first, &mut listed);
-    let mut selves = no_positions();
-    let mut earlies = no_positions();
-    let judged = truth_outcome(text, pattern, s, &first, &mut selves, &mut earlies, flags);
-    let totals = totals_of(pattern, AS_IT_IS, symbols, flags, n);
-    let d = symbols as usize;
-    list_flagged(
-        text,
-        pattern,
-        AS_IT_IS,
-        s,
-        &listed[..d],
-        &first,
-        &mut selves,
-        &mut earlies,
-        judged,
-        totals,
-        flags,
-        listing,
-    )
+    let known = read_pattern(pattern);
+    let mut own = table(FirstEnd { end: 0, earlier: 0 });
+    let totals = totals_of(known.count, &flags[..s.windows()]);
+    truth_outcome(text, &known, s, &mut own, flags)?;
+    list_flagged(text, &known, s, &mut own, totals, flags, listing)
 }
 
 // Writes the listing of a search from flags. Refused by 2, 3, 4, by 10 where the flags are fewer than the windows, by
 // 16 where they are not the truth, and by 11. No links and no counts are lent: the flags are judged strip by strip,
 // from text and pattern alone.
-pub fn list_windows(
-    text: &[u8],
-    rows: usize,
-    columns: usize,
-    pattern: &[u8],
-    height: usize,
-    width: usize,
-    flags: &[u8],
-    listing: &mut [u8],
-) -> Searched
-    ensures listing_after { list_done result listing.new
-        ≡ list_of (ask text.now rows columns pattern.now height width) flags.now
-        listing.old }
-    ensures bytes { Bytes text.now × Bytes pattern.now }
+pub fn list_windows(q: Question, flags: &[u8], listing: &mut [u8]) -> Result<Totals<u16>, Refusal>
+    ensures answer { list_done result listing.new ≡ list_of (question_in q.entry) flags.now listing.old }
+    ensures bytes { Bytes q.entry.text.now × Bytes q.entry.pattern.now }
 {
-    let s = Shape {
-        rows,
-        columns,
-        height,
-        width,
-    };
-    let outcome = flags_room_outcome(text, pattern, s, flags.len());
-    match outcome {
-        Outcome::Refused(why) => Searched::Refused(why),
-        Outcome::Accepted => list_posed(text, pattern, s, flags, listing),
-    }
+    flags_room_outcome(q, flags.len())?;
+    list_posed(q.text, q.pattern, q.shape, flags, listing)
 }

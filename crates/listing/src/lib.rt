@@ -3,3 +3,4 @@
 
 pub mod bytes;
 pub mod records;
+pub mod totals;

@@ -142,7 +142,7 @@ fn body_bytes(body: MismatchBody) -> [u8; 6]
 // Writes a record's bytes at a place, where there is room for them; the place after it.
 pub fn write_record(listing: &mut [u8], at: usize, item: Record) -> usize
     requires { at + length (bytes_of item) ≤ length listing.old }
-    ensures value { result ≡ at + length (bytes_of item) }
+    ensures end { result ≡ at + length (bytes_of item) }
     ensures listing_after { listing.new ≡ written listing.old at (bytes_of item) }
 {
     let kind = u8::from(item.kind());
@@ -164,7 +164,7 @@ pub fn write_record(listing: &mut [u8], at: usize, item: Record) -> usize
 // Writes a refused window's record by the side that is alike, which only the text tells; the place after it.
 pub fn write_mismatch(listing: &mut [u8], at: usize, alike: bool, body: MismatchBody) -> usize
     requires { at + 7 ≤ length listing.old }
-    ensures value { result ≡ at + 7 }
+    ensures end { result ≡ at + 7 }
     ensures listing_after { listing.new ≡ written listing.old at (bytes_of (mismatch_record alike body)) }
 {
     let alike = Side::from(alike);

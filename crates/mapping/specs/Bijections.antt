@@ -2,11 +2,11 @@
 -- Assumes nothing.
 pub mod Numbers
 pub mod Laws
-use Rattle.std.specs.Prelude.{Bool, ℕ, set, replicate}
+use Rattle.std.specs.Prelude.{Bool, [], ℕ, set, replicate, Result, Ok, Err}
 use Rattle.theory.specs.Columns.{agree, free, chained}
-use Rattle.refusals.specs.Said.{Said, new_by, ◌then◌, check, outcome_said}
+use Rattle.refusals.specs.declared.refusals.Refusal.{Refusal}
+use Rattle.refusals.specs.Said.{Said, accepts, new_by, ◌then◌, check, refusal_said}
 use Rattle.mapping.specs.declared.bijections.Bijection.{Bijection}
-use Rattle.mapping.specs.declared.bijections.BijectionAnswer.{BijectionAnswer}
 
 -- no symbol has an image
 unfoldable pub empty_bijection : Bijection
@@ -35,9 +35,10 @@ pub record Renamed : Type 0 where
   pub said : Said
   pub bijection : Bijection
 
--- an answer as such a pair
-abbrev pub renamed : BijectionAnswer → Renamed
-renamed r = record { said = outcome_said r.outcome; bijection = r.bijection }
+-- an answer as such a pair: refused, the bijection is the one that was given
+abbrev pub renamed : Bijection → Result Bijection Refusal → Renamed
+renamed given (Ok new) = record { said = accepts []; bijection = new }
+renamed given (Err why) = record { said = refusal_said why; bijection = given }
 
 -- accepted, the new bijection; refused, the old one
 abbrev pub renamed_by : Said → Bijection → Bijection → Renamed

@@ -4,145 +4,89 @@ ghost use Rattle.std.specs.Prelude.{◌≡◌};
 ghost use Rattle.theory.specs.Columns.{none_or, back_test, leads_back_test};
 ghost use Rattle.mapping.specs.Bijections.{empty_bijection, good_columns, renamed, pair_of, invert_of};
 
-use refusals::refusals::{Outcome, Reason, Refusal};
+use refusals::refusals::{Reason, Refusal};
 
-// 256 stands for no image and no preimage.
-#[derive(Clone, Copy)]
+// 256 stands for no image and no preimage. It is a number and no Option: the columns are lent by C, and document 01
+// says what is refused of numbers above 256.
+#[derive(Clone, Copy, Debug, PartialEq, Eq)]
 pub struct Bijection {
     pub forward: [u16; 256],
     pub backward: [u16; 256],
 }
 
-// How an operation on a bijection ends: refused, the bijection is the one that was given.
-#[derive(Clone, Copy)]
-pub struct BijectionAnswer {
-    pub outcome: Outcome,
-    pub bijection: Bijection,
-}
-
-// The bijection with no pair.
-pub fn empty() -> Bijection
-    ensures { result ≡ empty_bijection }
-{
-    let f = [256u16; 256];
-    let g = [256u16; 256];
-    Bijection {
-        forward: f,
-        backward: g,
-    }
-}
-
-// A cast of an element that was read asks for its range; a call does not.
-fn wide(x: u16) -> usize
-    ensures { result ≡ x }
-{
-    x as usize
-}
-
 // Whether the entry x, which stands at a, is 256, or a symbol at which g leads back to a.
-fn back_at<'a>(g: &'a [u16; 256], x: u16, a: usize) -> bool
+fn back_at(g: &[u16; 256], x: u16, a: usize) -> bool
     ensures { result ≡ back_test g.now x a }
 {
     if x < 256 {
-        let i = x as usize;
-        let y = wide(g[i]);
-        return y == a;
+        return usize::from(g[usize::from(x)]) == a;
     }
     x == 256
 }
 
 // Whether each entry of f is 256, or a symbol at which g leads back.
-fn leads_back<'a>(f: &'a [u16; 256], g: &'a [u16; 256]) -> bool
+fn leads_back(f: &[u16; 256], g: &[u16; 256]) -> bool
     ensures { result ≡ leads_back_test f.now g.now }
 {
-    let mut a = 0;
-    while a < 256 {
-        let x = f[a];
+    for (a, &x) in f.iter().enumerate() {
         if !back_at(g, x, a) {
             return false;
         }
-        a += 1;
     }
     true
-}
-
-// Whether the columns agree and hold nothing above 256.
-pub fn columns_agree(b: Bijection) -> bool
-    ensures { result ≡ good_columns b }
-{
-    let f = b.forward;
-    let g = b.backward;
-    if leads_back(&f, &g) {
-        leads_back(&g, &f)
-    } else {
-        false
-    }
 }
 
 // Whether a symbol with the entry x in its column may be paired with y: x is 256 or y.
 fn may_have(x: u16, y: u8) -> bool
     ensures { result ≡ none_or x y }
 {
-    if x == 256 {
-        return true;
-    }
-    let z = y as u16;
-    x == z
+    x == u16::from(y) || x == 256
 }
 
-// Pairs a with c. Refused by 14, then 12, then 13.
-pub fn pair(b: Bijection, a: u8, c: u8) -> BijectionAnswer
-    ensures { renamed result ≡ pair_of b a c }
-{
-    if !columns_agree(b) {
-        return BijectionAnswer {
-            outcome: Outcome::Refused(Refusal::Plain(Reason::ColumnsDisagree)),
-            bijection: b,
-        };
+impl Bijection {
+    // The bijection with no pair.
+    #[tactic(auto, unfolding(crate::specs::Bijections::empty_bijection))]
+    pub fn empty() -> Bijection
+        ensures { result ≡ empty_bijection }
+    {
+        Bijection {
+            forward: [256; 256],
+            backward: [256; 256],
+        }
     }
-    let i = a as usize;
-    let j = c as usize;
-    let f = b.forward[i];
-    if !may_have(f, c) {
-        return BijectionAnswer {
-            outcome: Outcome::Refused(Refusal::Plain(Reason::HasOtherImage)),
-            bijection: b,
-        };
-    }
-    let g = b.backward[j];
-    if !may_have(g, a) {
-        return BijectionAnswer {
-            outcome: Outcome::Refused(Refusal::Plain(Reason::HasOtherPreimage)),
-            bijection: b,
-        };
-    }
-    let mut r = b;
-    r.forward[i] = c as u16;
-    r.backward[j] = a as u16;
-    BijectionAnswer {
-        outcome: Outcome::Accepted,
-        bijection: r,
-    }
-}
 
-// Exchanges the columns. Refused by 14.
-pub fn invert(b: Bijection) -> BijectionAnswer
-    ensures { renamed result ≡ invert_of b }
-{
-    if !columns_agree(b) {
-        return BijectionAnswer {
-            outcome: Outcome::Refused(Refusal::Plain(Reason::ColumnsDisagree)),
-            bijection: b,
-        };
+    // Whether the columns agree and hold nothing above 256.
+    pub fn columns_agree(&self) -> bool
+        ensures { result ≡ good_columns self.now }
+    {
+        leads_back(&self.forward, &self.backward) && leads_back(&self.backward, &self.forward)
     }
-    let f = b.forward;
-    let g = b.backward;
-    let r = Bijection {
-        forward: g,
-        backward: f,
-    };
-    BijectionAnswer {
-        outcome: Outcome::Accepted,
-        bijection: r,
+
+    // With a and c paired. Refused by 14, then 12, then 13.
+    #[tactic(auto, unfolding(crate::specs::Bijections::pair_of, crate::specs::Bijections::pair_said, crate::specs::Bijections::paired))]
+    pub fn pair(self, a: u8, c: u8) -> Result<Bijection, Refusal>
+        ensures { renamed self result ≡ pair_of self a c }
+    {
+        let i = usize::from(a);
+        let j = usize::from(c);
+        Reason::ColumnsDisagree.unless(self.columns_agree())?;
+        Reason::HasOtherImage.unless(may_have(self.forward[i], c))?;
+        Reason::HasOtherPreimage.unless(may_have(self.backward[j], a))?;
+        let mut r = self;
+        r.forward[i] = u16::from(c);
+        r.backward[j] = u16::from(a);
+        Ok(r)
+    }
+
+    // The columns exchanged. Refused by 14.
+    #[tactic(auto, unfolding(crate::specs::Bijections::invert_of, crate::specs::Bijections::invert_said, crate::specs::Bijections::inverse))]
+    pub fn invert(self) -> Result<Bijection, Refusal>
+        ensures { renamed self result ≡ invert_of self }
+    {
+        Reason::ColumnsDisagree.unless(self.columns_agree())?;
+        Ok(Bijection {
+            forward: self.backward,
+            backward: self.forward,
+        })
     }
 }

@@ -1,23 +1,21 @@
 // The symbols of a pattern as marks, and their set: cell by cell, or from a place of each.
-ghost use Rattle.std.specs.Prelude.{◌≡◌, ◌≤◌, ◌<◌, eqb, ltb, length, get_or};
+ghost use Rattle.std.specs.Prelude.{◌≡◌, ℕ, ◌≤◌, ◌<◌, eqb, ltb, length, get_or};
 ghost use Rattle.theory.specs.Test.{pick, both};
 ghost use Rattle.sets.specs.Symbols.{set_of, set_of_symbols};
 ghost use Rattle.sets.specs.Symbols.{Marks, MarksOf, PlacesOf, word_with_mark};
 
+use placed::pattern::Pattern;
 use sets::symbols::Symbols;
-use shapes::tables::no_symbols;
+use shapes::tables::table;
 
 // The marks of a pattern: 1 for each symbol that it has, 0 for the others. A cell costs one store and no branch, so a
 // large pattern is read at the speed of its bytes.
 fn marks_of(pattern: &[u8]) -> [u8; 256]
     ensures { MarksOf pattern.now result }
 {
-    let mut marks = no_symbols();
-    let mut i = 0;
-    while i < pattern.len() {
-        let v = pattern[i] as usize;
-        marks[v] = 1;
-        i += 1;
+    let mut marks = table(0);
+    for v in pattern {
+        marks[usize::from(*v)] = 1;
     }
     marks
 }
@@ -29,10 +27,8 @@ fn mark_word(marks: &[u8; 256], from: usize) -> u64
     ensures { result ≡ word_with_mark marks.now from 64 }
 {
     let mut w = 0;
-    let mut k = 64;
-    while 0 < k {
-        k -= 1;
-        w = 2 * w + marks[from + k] as u64;
+    for k in (0..64).rev() {
+        w = 2 * w + u64::from(marks[from + k]);
     }
     w
 }
@@ -60,40 +56,35 @@ pub fn symbol_set(pattern: &[u8]) -> Symbols
     symbols_marked(&marks)
 }
 
-// 1 where the pattern has symbol v at place p, 0 where it has another one there or ends before it.
-fn mark_at(pattern: &[u8], p: usize, v: usize) -> u8
-    ensures { result ≡ pick (both (ltb p (length pattern.now)) (eqb (get_or pattern.now p 0) v)) 1 0 }
+// 1 where a pattern of so many cells has symbol v at place p, 0 where it has another one there or ends before it.
+fn mark_at<P: Pattern>(pattern: P, cells: usize, p: usize, v: usize) -> u8
+    requires { cells ≡ length (P.cells pattern) }
+    ensures { result ≡ pick (both (ltb p (length (P.cells pattern))) (eqb (get_or (P.cells pattern) p 0) v)) 1 0 }
 {
-    if pattern.len() <= p {
-        return 0;
-    }
-    let x = pattern[p] as usize;
-    if x == v {
-        return 1;
-    }
-    0
+    u8::from(p < cells && usize::from(pattern.at(p)) == v)
 }
 
-// The marks of a pattern by a table that has a place of each of its symbols, in 256 looks at the pattern, however large
-// it is. For a symbol that the pattern does not have the table may have any place: it does not stand there.
-fn marks_by(pattern: &[u8], places: &[usize; 256]) -> [u8; 256]
-    requires { PlacesOf pattern.now places.now }
-    ensures { MarksOf pattern.now result }
+// The marks of a pattern as it lies by a table that has a place of each of its symbols, in 256 looks at the pattern,
+// however large it is. For a symbol that the pattern does not have the table may have any place: it does not stand
+// there. That its cells are bytes is said beside it: who has the set may count them by it.
+fn marks_by<P: Pattern>(pattern: P, places: &[usize; 256]) -> [u8; 256]
+    requires { PlacesOf (P.cells pattern) places.now }
+    ensures marks { MarksOf (P.cells pattern) result }
+    ensures bytes { (k : ℕ) → get_or (P.cells pattern) k 0 < 256 }
 {
-    let mut marks = no_symbols();
-    let mut v = 0;
-    while v < 256 {
-        let p = places[v];
-        marks[v] = mark_at(pattern, p, v);
-        v += 1;
+    let cells = pattern.len();
+    let mut marks = table(0);
+    for (v, p) in places.iter().enumerate() {
+        marks[v] = mark_at(pattern, cells, *p, v);
     }
     marks
 }
 
-// The set of the symbols in a pattern, without a walk through it: for a caller who has a place of each.
-pub fn symbols_placed(pattern: &[u8], places: &[usize; 256]) -> Symbols
-    requires { PlacesOf pattern.now places.now }
-    ensures { result ≡ set_of_symbols pattern.now }
+// The set of the symbols in a pattern as it lies, without a walk through it: for a caller who has a place of each.
+pub fn symbols_placed<P: Pattern>(pattern: P, places: &[usize; 256]) -> Symbols
+    requires { PlacesOf (P.cells pattern) places.now }
+    ensures set { result ≡ set_of_symbols (P.cells pattern) }
+    ensures bytes { (k : ℕ) → get_or (P.cells pattern) k 0 < 256 }
 {
     let marks = marks_by(pattern, places);
     symbols_marked(&marks)

@@ -1,3 +1,4 @@
 pub mod Compare
+pub mod Compared
 pub mod Windows
 pub mod Questions

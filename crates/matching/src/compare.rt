@@ -1,75 +1,53 @@
 // A pattern against the window of its size at a corner of a text: where they part first, and what is answered of a
 // window. The window is read in place, row by row, through its view.
-ghost use Rattle.std.specs.Prelude.{◌≡◌, ◌+◌, ◌<◌, length, replicate};
+ghost use Rattle.std.specs.Prelude.{◌≡◌, ◌<◌, length, replicate};
 ghost use Rattle.prefixes.specs.Prefixes.{EndIs};
 ghost use Rattle.prefixes.specs.State.{FirstPlaces};
-ghost use Rattle.matching.specs.Compare.{cell_of_pattern, window_of, cell_count, Placed};
-ghost use Rattle.matching.specs.Compare.{verdict_between};
+ghost use Rattle.matching.specs.Compare.{cell_of_pattern, verdict_between};
+ghost use Rattle.matching.specs.Compared.{pattern_seen, window_seen, cells_seen};
 
-use cells::windows::WindowPlace;
+use crate::compared::Compared;
 use mapping::bijections::Bijection;
 use reach::reach::Far;
-use refusals::refusals::Refusal;
 use rows::rows::{earlier_by, part_end};
-use view::WindowView;
 
 // What is answered of a window.
 #[derive(Clone, Copy)]
 pub enum Verdict {
-    Match,
+    // With the bijection that pairs just the pattern's symbols with the window's.
+    Match(Bijection),
     // Two cells, by position row by row in the pattern, that are alike on one side only.
     Mismatch {
         alike_in_pattern: bool,
         earlier: usize,
         later: usize,
     },
-    Refused(Refusal),
-}
-
-// The verdict with the bijection; beside a mismatch or a refusal the bijection is empty.
-#[derive(Clone, Copy)]
-pub struct WindowAnswer {
-    pub verdict: Verdict,
-    pub bijection: Bijection,
-}
-
-// The window's symbol at one position.
-pub fn symbol_at(text: &[u8], v: WindowPlace, p: usize) -> u8
-    requires { Placed text.now v × (p < cell_count v) }
-    ensures { result ≡ window_of text.now v p }
-{
-    WindowView { text, place: v }.symbol(p)
 }
 
 // The position at which a mismatch of the window ends first, with the mismatch's earlier position; where none ends, the
 // number of positions, with 0. The window is a strip of its own here, so its positions are the strip's places.
-pub fn first_end(
-    text: &[u8],
-    v: WindowPlace,
-    pattern: &[u8],
-    first: &[usize; 256],
-    last: &mut [usize; 256],
-) -> Far
-    requires { Placed text.now v × (length pattern.now ≡ cell_count v)
-        × FirstPlaces (cell_of_pattern pattern.now) (length pattern.now) first.now × (last.old ≡ replicate 256 0) }
-    ensures { EndIs (cell_of_pattern pattern.now) (window_of text.now v) (cell_count v) result.place
-        result.earlier }
+pub fn first_end(c: Compared, first: &[usize; 256], last: &mut [usize; 256]) -> Far
+    requires { FirstPlaces (pattern_seen c) (length c.pattern.now) first.now × (last.old ≡ replicate 256 0) }
+    ensures { EndIs (pattern_seen c.entry) (window_seen c.entry) (cells_seen c.entry) result.place result.earlier }
 {
-    let height = v.height;
+    let Compared {
+        window,
+        pattern,
+        ..
+    } = c;
+    let v = window.place;
     let mut from = 0;
-    let mut i = 0;
-    while i < height {
-        let row = WindowView { text, place: v }.row_cells(i);
-        let j = part_end(pattern, row, first, last, 0, from);
+    for i in 0..v.height {
+        let row = window.row_cells(i);
+        let j = part_end(pattern, row, 0, v.width, first, last, 0, from);
         if j < v.width {
-            let x = row[j] as usize;
+            let x = usize::from(row[j]);
             return Far {
                 place: from + j,
                 earlier: earlier_by(pattern, first, 0, last[x], from + j),
             };
         }
         from += v.width;
-        i += 1;
     }
     Far {
         place: from,

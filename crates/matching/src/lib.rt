@@ -2,4 +2,5 @@
 #![tactic(auto)]
 
 pub mod compare;
+pub mod compared;
 pub mod windows;

@@ -4,36 +4,29 @@
 pub mod Plain
 pub mod Reading
 pub mod Rising
-use Rattle.std.specs.Prelude.{◌≡◌, Bool, true, false, List, ◌∷◌, ℕ, ◌+◌, ◌≤◌, ◌<◌, eqb, length, get_or}
-use Rattle.std.proofs.Common.{sym, ◌∙◌, ap, arith}
+use Rattle.std.proofs.Common.{◌≡◌, Bool, true, false, List, ◌∷◌, ℕ, ◌+◌, ◌≤◌, ◌<◌, eqb, length, get_or, sym, ◌∙◌, ap}
+use Rattle.std.proofs.Common.{arith, Ok, Err}
 use Rattle.theory.specs.Older.{Older}
 use Rattle.occurrences.specs.Distinct.{contains}
 use Rattle.occurrences.specs.Distinct.Sets.{contains_tested}
 use Rattle.sets.specs.Symbols.{symbols_of}
 use Rattle.refusals.specs.declared.refusals.Refusal.TheVariants.{ListingForm, ListingFalse}
-use Rattle.matching.specs.Compare.{cell_of_pattern, window_of, cell_count, Placed}
-use Rattle.cells.specs.declared.windows.WindowPlace.{WindowPlace}
+use Rattle.sets.specs.Symbols.Patterns.{listed_symbol}
+use Rattle.view.specs.Places.{corner_of}
+use Rattle.matching.specs.Compared.{pattern_seen, window_seen, cells_seen}
+use Rattle.matching.specs.declared.compared.Compared.{Compared}
 use Rattle.theory.specs.Test.{pick, both, Tested, holds, fails}
 use Rattle.theory.specs.Test.Laws.{eq_tested, lt_tested, tested_iff, tested_same, is_true, is_false, says_true}
 use Rattle.theory.specs.First.Laws.{every_tested}
 use Rattle.inheriting.specs.Carries.{Carried}
-use Rattle.inheriting.specs.Inheritance.{Follows}
 use Rattle.inheriting.specs.Inheritance.Laws.{follows_carried}
-use Rattle.inheriting.specs.Offsets.{corner_of, image_from_behind, Offsets, ImagesInside}
-use Rattle.inheriting.specs.Offsets.Laws.{offset_inside, inside_listed}
+use Rattle.inheriting.specs.Offsets.{image_from_behind}
+use Rattle.inheriting.specs.Offsets.Laws.{offset_inside}
+use Rattle.inheriting.specs.Images.{image_in, ImagesIn}
+use Rattle.inheriting.specs.declared.images.Imaged.{Imaged}
+use Rattle.pairs.specs.declared.window.FoundWindow.{FoundWindow}
 use Rattle.claims.specs.Claims.{or_stop, byte_at, stands, has_image_test, right_pair}
-use Rattle.std.specs.Prelude.{Ok, Err}
 use Rattle.claims.specs.Claims.{Walk}
-
--- a window that a found record names: its corner, the offsets that lead from there to its symbols' images, and whether
--- it is known to follow the pattern
-pub record FoundWindow (text : List ℕ) (v : WindowPlace) (pattern : List ℕ) (carried : Bool) (corner : ℕ)
-    (offsets : List ℕ) : Type 0 where
-  pub placed : Placed text v
-  pub size : length pattern ≡ cell_count v
-  pub corner_is : corner ≡ corner_of v
-  pub leads : Offsets pattern v.columns v.width offsets
-  pub follows : carried ≡ true → Follows (cell_of_pattern pattern) (window_of text v) (cell_count v)
 
 -- just the symbols given are marked with base
 pub record Marked (base : ℕ) (given marks : List ℕ) : Type 0 where
@@ -57,7 +50,8 @@ imply_tested (holds p) (holds q) = holds (λ _. q)
 imply_tested (holds p) (fails n) = fails (λ f. n (f p))
 imply_tested (fails n) t = holds (λ p. absurd (n p))
 
-pub has_image_tested : (m w : ℕ → ℕ) (n a b : ℕ) → Tested ((p : ℕ) → p < n → m p ≡ a → w p ≡ b) (has_image_test m w n a b)
+pub has_image_tested : (m w : ℕ → ℕ) (n a b : ℕ) → Tested ((p : ℕ) → p < n → m p ≡ a
+    → w p ≡ b) (has_image_test m w n a b)
 unfolding has_image_test
 has_image_tested m w n a b =
     every_tested (λ p. pick (eqb (m p) a) (eqb (w p) b) true) n
@@ -89,42 +83,51 @@ module _ (m w : ℕ → ℕ) (a b : ℕ) where
 
 -- where the window follows the pattern, the image of a symbol that the pattern has says it: one cell has the symbol, so
 -- the image is that cell's, and every other one's
-pub image_carried : (text : List ℕ) (v : WindowPlace) (pattern : List ℕ) (carried : Bool) (corner : ℕ)
-    (offsets : List ℕ) (a b x : ℕ) → FoundWindow text v pattern carried corner offsets → carried ≡ true
-    → contains pattern a ≡ true → x ≡ image_from_behind text corner offsets a
-    → eqb x b ≡ has_image_test (cell_of_pattern pattern) (window_of text v) (cell_count v) a b
-image_carried text v pattern carried corner offsets a b x found says has x_is =
+pub image_carried : (f : FoundWindow) (a b x : ℕ) → let c = f.images.compared in f.carried ≡ true
+    → contains c.pattern.now a ≡ true → x ≡ image_in f.images a
+    → eqb x b ≡ has_image_test (pattern_seen c) (window_seen c) (cells_seen c) a b
+image_carried f a b x says has x_is =
     tested_same (tested_iff there back (eq_tested x b))
-    (has_image_tested (cell_of_pattern pattern) (window_of text v) (cell_count v) a b)
+    (has_image_tested (pattern_seen c) (window_seen c) (cells_seen c) a b)
   where
-    cells : Carried text (corner_of v) offsets (cell_of_pattern pattern) (window_of text v) (cell_count v)
+    c : Compared
+    c = f.images.compared
+
+    cells : Carried c.window.text.now (corner_of c.window.place) f.images.offsets.now (pattern_seen c) (window_seen c)
+        (cells_seen c)
     cells =
-        follows_carried text v pattern offsets (cell_count v) found.leads (omega (arith, found.size))
-        (found.follows says)
+        follows_carried c.window.text.now c.window.place c.pattern.now f.images.offsets.now (cells_seen c)
+        f.images.leads (omega (arith, c.fitting)) (f.follows says)
 
-    image : (p : ℕ) → p < cell_count v → get_or pattern p 0 ≡ a → x ≡ window_of text v p
+    image : (p : ℕ) → p < cells_seen c → pattern_seen c p ≡ a → x ≡ window_seen c p
     image p h e =
-        x_is ∙ ap (λ (k : ℕ). image_from_behind text k offsets a) found.corner_is
-        ∙ ap (image_from_behind text (corner_of v) offsets) (sym e) ∙ cells.carries p h
+        x_is ∙ ap (λ (k : ℕ). image_from_behind c.window.text.now k f.images.offsets.now a) f.images.corner_is
+        ∙ ap (image_from_behind c.window.text.now (corner_of c.window.place) f.images.offsets.now) (sym e)
+        ∙ cells.carries p h
 
-    there : x ≡ b → (p : ℕ) → p < cell_count v → get_or pattern p 0 ≡ a → window_of text v p ≡ b
+    there : x ≡ b → (p : ℕ) → p < cells_seen c → pattern_seen c p ≡ a → window_seen c p ≡ b
     there e p h d = sym (image p h d) ∙ e
 
-    back : ((p : ℕ) → p < cell_count v → get_or pattern p 0 ≡ a → window_of text v p ≡ b) → x ≡ b
+    back : ((p : ℕ) → p < cells_seen c → pattern_seen c p ≡ a → window_seen c p ≡ b) → x ≡ b
     back all =
-        let cell = says_true (contains_tested pattern a) has in
-        let inside : cell.0 < cell_count v = omega (arith, cell.1, found.size) in
+        let cell = says_true (contains_tested c.pattern.now a) has in
+        let inside : cell.0 < cells_seen c = omega (arith, cell.1, c.fitting) in
         image cell.0 inside cell.2 ∙ all cell.0 inside cell.2
 
 -- the image lies in the text
-module _ (text : List ℕ) (v : WindowPlace) (pattern : List ℕ) (carried : Bool) (corner : ℕ) (offsets : List ℕ)
-    (found : FoundWindow text v pattern carried corner offsets) where
-  pub image_inside : (a : ℕ) → contains pattern a ≡ true → corner + get_or offsets a 0 < length text
+module _ (m : Imaged) where
+  pub image_inside : (a : ℕ) → contains m.compared.pattern.now a ≡ true
+      → m.corner + get_or m.offsets.now a 0 < length m.compared.window.text.now
   image_inside a has =
-      rw found.corner_is (offset_inside text v pattern offsets found.placed found.size found.leads a has)
+      let c = m.compared in
+      let inside = offset_inside c.window.text.now c.window.place c.pattern.now m.offsets.now c.window.placed c.fitting
+      m.leads a has in
+      omega (arith, inside, m.corner_is)
 
   -- and so do those of the listed symbols
-  pub symbols_inside : (symbols : List ℕ) → symbols ≡ symbols_of pattern → ImagesInside text corner offsets symbols
+  pub symbols_inside : (symbols : List ℕ) → symbols ≡ symbols_of m.compared.pattern.now → ImagesIn m symbols
   symbols_inside symbols e =
-      rw found.corner_is
-      (inside_listed text v pattern offsets found.placed found.size found.leads symbols e)
+      record {
+        long = m.leads.long;
+        each = λ i h. image_inside (get_or symbols i 0) (listed_symbol m.compared.pattern.now symbols e i h).1;
+      }

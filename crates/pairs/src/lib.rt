@@ -2,3 +2,4 @@
 #![tactic(auto)]
 
 pub mod plain;
+pub mod window;

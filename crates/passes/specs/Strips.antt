@@ -1,15 +1,11 @@
 -- The listing in two passes: the found windows row by row, then the refused ones strip by strip; each at its place, so
 -- that together they are all windows in their order. And what the writing of one window asks.
 -- Assumes nothing.
-use Rattle.std.specs.Prelude.{◌≡◌, Bool, true, false, ◌⊎◌, eqb, get_or}
-use Rattle.std.proofs.Math.Path.{sym, ap, subst}
-use Rattle.std.proofs.Common.{◌∙◌, ap₂, ⊎_elim, suc-mul, add-one, arith, eq-eqb}
-use mathlib.Core.List.{List, ◌++◌}
-use Rattle.std.proofs.Math.Logic.{inl, inr}
-use Prim.Native.Nat.{ℕ, zero, suc, ◌+◌, ◌*◌, ◌≤◌, ◌<◌}
-use Rattle.std.proofs.Math.ListN.{length}
+use Rattle.std.specs.Prelude.{◌≡◌, Bool, true, false, List, ◌++◌, ◌⊎◌, ℕ, zero, suc, ◌+◌, ◌*◌, ◌≤◌, ◌<◌, eqb, length}
+use Rattle.std.specs.Prelude.{get_or}
+use Rattle.std.proofs.Common.{sym, ap, ap₂, subst, ◌∙◌, inl, inr, ⊎_elim, eq-eqb, arith}
 use Rattle.theory.specs.Test.{pick, Tested, holds, fails}
-use Rattle.theory.specs.Test.Laws.{eq_tested, lt_tested, pick_true}
+use Rattle.theory.specs.Test.Laws.{eq_tested, pick_true}
 use Rattle.theory.specs.Join.{joined}
 use Rattle.theory.specs.Join.Laws.{joined-zero, joined-suc}
 use Rattle.cells.specs.Windows.Laws.{corner_row_lem, corner_column_lem}
@@ -22,7 +18,8 @@ use Rattle.shapes.specs.declared.shapes.Shape.{Shape}
 use Rattle.shapes.specs.Questions.{asked}
 use Rattle.prefixes.specs.Prefixes.{EndIs}
 use Rattle.sweep.specs.Sweep.{end_of, earlier_of}
-use Rattle.matching.specs.Compare.{cell_of_pattern, window_of, cell_count}
+use Rattle.matching.specs.Compare.{cell_of_pattern}
+use Rattle.view.specs.Places.{window_of, cell_count}
 use Rattle.matching.specs.Windows.{window_place}
 use Rattle.cells.specs.declared.windows.WindowPlace.{WindowPlace}
 use Rattle.theory.specs.Written.{written}
@@ -94,17 +91,6 @@ module _ (piece : ℕ → List ℕ) (size : ℕ) (flags : List ℕ) where
           (puts_same piece size (FoundIn flags from k) (FoundIn flags from to) old l p
           (λ j b g. here j g (other y j g)))
 
-  -- one row of windows more
-  pub rows_found : (old l new : List ℕ) (k to : ℕ) → Puts piece size (FoundIn flags 0 k) old l
-      → Puts piece size (FoundIn flags k to) l new → Puts piece size (FoundIn flags 0 to) old new
-  rows_found old l new k to p q =
-      puts_then piece size (FoundIn flags 0 k) (FoundIn flags k to) (FoundIn flags 0 to) old l new p q
-      (λ j b g. which j g (lt_tested j k))
-    where
-      which : (j : ℕ) {b : Bool} → FoundIn flags 0 to j → Tested (j < k) b → FoundIn flags 0 k j ⊎ FoundIn flags k to j
-      which j g (holds d) = inl (record { since = g.since; before = d; found = g.found })
-      which j g (fails d) = inr (record { since = omega arith; before = g.before; found = g.found })
-
   -- the refused ones down a column
   module _ (wide left : ℕ) where
     pub column_refused_none : (l : List ℕ) → Puts piece size (RefusedHere flags wide left 0) l l
@@ -157,10 +143,6 @@ module _ (piece : ℕ → List ℕ) (size : ℕ) (flags : List ℕ) where
         which j g (holds d) = inr (subst (λ (i : ℕ). RefusedHere flags wide i tall j) d g.at_column)
         which j g (fails d) =
             inl (record { column = g.column; beside = omega (arith, g.beside); at_column = g.at_column })
-
--- the end of a row of windows is the next row's place
-pub row_over : (top wide left : ℕ) → left ≡ wide → top * wide + left ≡ (top + 1) * wide
-row_over top wide left e = rw (e, add-one top) (sym (suc-mul top wide))
 
 pick_le : (b : Bool) (size : ℕ) → size ≤ 771 → pick b size 7 ≤ 771
 pick_le true size h = h
@@ -222,7 +204,8 @@ module _ (text pattern : List ℕ) (s : Shape) where
         rw (d, match_test text pattern s flags f.flags_are k h)
         (length_window (asked text pattern s) k)
 
-    pub found_length : (k : ℕ) → k < down s * across s → get_or flags k 0 ≡ 1 → size ≡ length (piece_of text pattern s k)
+    pub found_length : (k : ℕ) → k < down s * across s → get_or flags k 0 ≡ 1
+        → size ≡ length (piece_of text pattern s k)
     found_length k h e = sym (piece_length k h ∙ pick_true _ _ (eq-eqb _ _ e))
 
     -- at most 256 symbols are listed, so the place behind a window is a small number

@@ -1,24 +1,16 @@
--- Laws of blocks: the place that is shown depends on the position divided by the scale and on nothing else of it, so the
--- positions with one quotient show one cell, and in a row the next quotient the next cell.
+-- Laws of blocks: the place that is shown depends on the position divided by the scale and on nothing else of it, so
+-- the positions with one quotient show one cell, and in a row the next quotient the next cell.
 -- Assumes nothing.
-use Rattle.std.specs.Prelude.{◌≡◌, refl, false, List, ℕ, ◌+◌, ◌-◌, ◌*◌, ◌/◌, ◌%◌, ◌≤◌, ◌<◌, eqb, length, get_or}
-use Rattle.std.proofs.Common.{sym, ◌∙◌, ap, subst, add-zero, zero-mul, add-mul, suc-mul, div-mul-le_self, div-lt_iff_lt-mul, mul-le-mul_right, add-one, arith}
+use Rattle.std.specs.Prelude.{◌≡◌, refl, Bool, List, ℕ, ◌+◌, ◌-◌, ◌*◌, ◌/◌, ◌%◌, ◌≤◌, ◌<◌, length, get_or}
+use Rattle.std.proofs.Common.{sym, ◌∙◌, ap, subst, add-zero, zero-mul, add-mul, suc-mul, mul_comm, mul_assoc, add-one}
+use Rattle.std.proofs.Common.{mul-le-mul_right, lt_of_mul-lt-mul_right, div-mul-le_self, div-lt_iff_lt-mul, arith}
 use Rattle.std.proofs.Math.Nat.{div-eq_of_lt-le, div-div-eq-div-mul, lt-div-mul-add}
-use Rattle.placed.specs.Placing.{index_at, placed}
-use Rattle.placed.specs.Placing.Laws.{Enlarged, placed_known, placed_cell, place_inside, quotient_along}
-use Rattle.placed.specs.Placing.Laws.{scale_le, wide_pos}
-use Rattle.placed.specs.Blocks.{AlikeTo, Shown, Onward, BlockAt}
-use Rattle.placed.specs.declared.blocks.Block.{Block}
-use Rattle.placed.specs.declared.placing.Placing.{Placing}
-
--- one cell by itself
-pub alike_self : (l : List ℕ) (p : ℕ) → AlikeTo l p (p + 1)
-alike_self l p =
-    record {
-      past = omega arith;
-      near = omega arith;
-      alike = λ q le lt _. ap (λ (x : ℕ). get_or l x 0) (omega arith);
-    }
+use Rattle.theory.specs.Test.{Tested, holds, fails}
+use Rattle.theory.specs.Test.Laws.{lt_tested}
+use Rattle.placed.specs.Placing.{index_at, enlarged, Sound}
+use Rattle.placed.specs.Placing.Laws.{enlarged_long, enlarged_cell, place_inside, quotient_along, wide_pos}
+use Rattle.placed.specs.Blocks.{AlikeFrom, BlockAt, Shown, Follows}
+use Rattle.placed.specs.declared.block.Block.{Block}
 
 -- the place that is shown, by the position divided by the scale
 index_by_scale : (k width p : ℕ) → 0 < k
@@ -44,136 +36,143 @@ index_further k width p q n pos e row =
     let along : p / k / width * width ≤ p / k = div-mul-le_self (p / k) width in
     rw (at, bt, same, e) (omega arith)
 
-module _ (pattern : List ℕ) (g : Placing) (p : ℕ) (e : eqb g.scale 1 ≡ false) (known : Enlarged pattern g)
-    (h : p < g.cells) where
-  pos : 0 < g.scale
-  pos = known.numbers.scaled
+module _ (pattern : List ℕ) {k height width cells by_scale by_width by_block : ℕ}
+    (s : Sound k height width cells by_scale by_width by_block) (sides : length pattern ≡ height * width) (p : ℕ)
+    (h : p < cells) where
+  pos : 0 < k
+  pos = s.scaled
 
   -- the end of the block m quotients further on
-  end_is : (m : ℕ) → (p / g.scale + m + 1) * g.scale ≡ (p / g.scale + m) * g.scale + g.scale
-  end_is m = ap (λ (x : ℕ). x * g.scale) (add-one (p / g.scale + m)) ∙ suc-mul (p / g.scale + m) g.scale
+  end_is : (m : ℕ) → (p / k + m + 1) * k ≡ (p / k + m) * k + k
+  end_is m = ap (λ (x : ℕ). x * k) (add-one (p / k + m)) ∙ suc-mul (p / k + m) k
 
-  same : (m q : ℕ) → (p / g.scale + m) * g.scale ≤ q → q < (p / g.scale + m + 1) * g.scale
-      → q / g.scale ≡ p / g.scale + m
-  same m q lo hi = div-eq_of_lt-le g.scale lo hi
+  same : (m q : ℕ) → (p / k + m) * k ≤ q → q < (p / k + m + 1) * k → q / k ≡ p / k + m
+  same m q lo hi = div-eq_of_lt-le k lo hi
+
+  -- all cells are blocks of k
+  cells_blocks : cells ≡ height * (k * width) * k
+  cells_blocks =
+      s.cells_is
+      ∙ ap (λ (x : ℕ). x * (k * width)) (mul_comm k height)
+      ∙ mul_assoc height k (k * width)
+      ∙ ap (λ (x : ℕ). height * x) (mul_comm k (k * width))
+      ∙ sym (mul_assoc height (k * width) k)
+
+  -- so a block that begins before the last cell ends there or before
+  block_inside : (x : ℕ) → x * k < cells → (x + 1) * k ≤ cells
+  block_inside x lt =
+      let below : x * k < height * (k * width) * k = omega (arith, cells_blocks) in
+      let le : x < height * (k * width) = lt_of_mul-lt-mul_right k below in
+      let all : (x + 1) * k ≤ height * (k * width) * k = mul-le-mul_right k (omega arith) in
+      omega (arith, cells_blocks)
 
   -- that block, from one of its positions on
-  block_shown : (m q : ℕ) → q < g.cells → (p / g.scale + m) * g.scale ≤ q → q < (p / g.scale + m + 1) * g.scale
-      → q / (g.scale * g.width) ≡ p / (g.scale * g.width)
-      → Shown pattern g (index_at g.scale g.width p + m) q ((p / g.scale + m + 1) * g.scale)
-  block_shown m q few lo hi row =
-      let at = index_further g.scale g.width p q m pos (same m q lo hi) row in
+  block_shown : (m q n : ℕ) → 0 < n → (p / k + m) * k ≤ q → q + n ≤ (p / k + m + 1) * k
+      → (p / k + m + 1) * k ≤ cells → q / (k * width) ≡ p / (k * width)
+      → Shown pattern (enlarged pattern k width cells) (index_at k width p + m) q n
+  block_shown m q n some lo hi inside row =
+      let at = index_further k width p q m pos (same m q lo (omega arith)) row in
       record {
-        inside = omega (arith, place_inside g known.numbers q few, known.sides);
-        shows = ap (λ (x : ℕ). get_or pattern x 0) (sym at) ∙ placed_cell pattern g q e known few;
+        inside = omega (arith, place_inside s q (omega arith), sides);
+        shows = ap (λ (x : ℕ). get_or pattern x 0) (sym at) ∙ enlarged_cell pattern k width cells q (omega arith);
         alike =
             record {
-              past = hi;
-              near = omega (arith, end_is m, scale_le g known.numbers);
-              alike = λ r le lt inside.
-                  sym (placed_cell pattern g q e known few)
+              some = some;
+              inside = omega (arith, enlarged_long pattern k width cells);
+              same = λ r lt.
+                  sym (enlarged_cell pattern k width cells q (omega arith))
                   ∙ ap (λ (x : ℕ). get_or pattern x 0)
-                  (index_alike g.scale g.width q r pos
-                  (same m q lo hi ∙ sym (same m r (omega arith) lt)))
-                  ∙ placed_cell pattern g r e known (placed_known pattern g r e inside).1;
+                  (index_alike k width q (q + r) pos
+                  (same m q lo (omega arith) ∙ sym (same m (q + r) (omega arith) (omega arith))))
+                  ∙ enlarged_cell pattern k width cells (q + r) (omega arith);
             };
       }
 
   -- the row's end is not behind the last cell
-  row_inside : (p / (g.scale * g.width) + 1) * (g.scale * g.width) ≤ g.cells
+  row_inside : (p / (k * width) + 1) * (k * width) ≤ cells
   row_inside =
-      let row : p / (g.scale * g.width) < g.scale * g.height
-      = (div-lt_iff_lt-mul (wide_pos g known.numbers)).1 (omega (arith, known.numbers.cells_is)) in
-      omega (arith, mul-le-mul_right (g.scale * g.width) row, known.numbers.cells_is)
+      let row : p / (k * width) < k * height
+      = (div-lt_iff_lt-mul (wide_pos s)).1 (omega (arith, s.cells_is)) in
+      omega (arith, mul-le-mul_right (k * width) row, s.cells_is)
 
-  pub row_near : (p / (g.scale * g.width) + 1) * (g.scale * g.width) ≤ 65025
-  row_near = omega (arith, row_inside, known.numbers.few)
+  pub row_near : (p / (k * width) + 1) * (k * width) ≤ 65025
+  row_near = omega (arith, row_inside, s.few)
 
-  pub end_near : (p / g.scale + 1) * g.scale ≤ p + 65025
-  end_near =
-      let next : (p / g.scale + 1) * g.scale ≡ p / g.scale * g.scale + g.scale
-      = ap (λ (x : ℕ). x * g.scale) (add-one (p / g.scale)) ∙ suc-mul (p / g.scale) g.scale in
-      omega (arith, div-mul-le_self p g.scale, scale_le g known.numbers)
+  over : p < (p / k + 1) * k
+  over =
+      let next : (p / k + 1) * k ≡ p / k * k + k = ap (λ (x : ℕ). x * k) (add-one (p / k)) ∙ suc-mul (p / k) k in
+      omega (arith, lt-div-mul-add {a = p} pos)
 
-  pub block_of : (b : Block) → b.place ≡ index_at g.scale g.width p → b.end ≡ (p / g.scale + 1) * g.scale
-      → b.stop ≡ (p / (g.scale * g.width) + 1) * (g.scale * g.width) → BlockAt pattern g p b
-  block_of b place end row_end =
-      record {
-        shown = rw (place, end) first;
-        onward = λ n lt. rw (place, end) (further n (rw (← end, ← row_end) lt));
-      }
-    where
-      over : p < p / g.scale * g.scale + g.scale
-      over = lt-div-mul-add pos
+  pub end_over : p ≤ (p / k + 1) * k
+  end_over = omega (arith, over)
 
-      first : Shown pattern g (index_at g.scale g.width p) p ((p / g.scale + 1) * g.scale)
-      first =
-          subst (λ (x : ℕ). Shown pattern g x p ((p / g.scale + 1) * g.scale)) (add-zero _)
-          (subst (λ (x : ℕ). Shown pattern g (index_at g.scale g.width p + 0) p ((x + 1) * g.scale)) (add-zero _)
-          (block_shown 0 p h (rw add-zero (div-mul-le_self p g.scale))
-          (omega (arith, end_is 0, over, ap (λ (x : ℕ). x * g.scale) (add-zero (p / g.scale)))) refl))
+  pub end_near : (p / k + 1) * k ≤ 65025
+  end_near = omega (arith, block_inside (p / k) (omega (arith, div-mul-le_self p k)), s.few)
 
-      further : (n : ℕ)
-          → (p / g.scale + 1) * g.scale + n * g.scale < (p / (g.scale * g.width) + 1) * (g.scale * g.width)
-          → Shown pattern g (index_at g.scale g.width p + 1 + n) ((p / g.scale + 1) * g.scale + n * g.scale)
-          ((p / g.scale + 1) * g.scale + n * g.scale + g.scale)
-      further n lt =
-          let q = (p / g.scale + 1) * g.scale + n * g.scale in
-          let place_is : index_at g.scale g.width p + (1 + n) ≡ index_at g.scale g.width p + 1 + n = omega arith
-          in
-          let sum_is : p / g.scale + (1 + n) ≡ p / g.scale + 1 + n = omega arith in
-          let start_is : (p / g.scale + (1 + n)) * g.scale ≡ q
-          = ap (λ (x : ℕ). x * g.scale) sum_is ∙ add-mul (p / g.scale + 1) n g.scale in
-          let end : (p / g.scale + (1 + n) + 1) * g.scale ≡ q + g.scale
-          = end_is (1 + n) ∙ ap (λ (x : ℕ). x + g.scale) start_is in
-          let next : (p / g.scale + 1) * g.scale ≡ p / g.scale * g.scale + g.scale
-          = ap (λ (x : ℕ). x * g.scale) (add-one (p / g.scale)) ∙ suc-mul (p / g.scale) g.scale in
-          let low : p / (g.scale * g.width) * (g.scale * g.width) ≤ p = div-mul-le_self p (g.scale * g.width) in
-          subst (λ (x : ℕ). Shown pattern g x q (q + g.scale)) place_is
-          (subst (λ (x : ℕ). Shown pattern g (index_at g.scale g.width p + (1 + n)) q x) end
-          (block_shown (1 + n) q (omega (arith, row_inside)) (omega arith) (omega (arith, pos))
-          (div-eq_of_lt-le (g.scale * g.width) (omega (arith, over)) lt)))
+  module _ (place end : ℕ) (place_is : place ≡ index_at k width p) (block_end : end ≡ (p / k + 1) * k) where
+    pub block_shown_at : Shown pattern (enlarged pattern k width cells) place p (end - p)
+    block_shown_at =
+        rw (place_is, block_end)
+        (simp add-zero at
+        (block_shown 0 p ((p / k + 1) * k - p) (omega (arith, over)) (simp add-zero (div-mul-le_self p k))
+        (simp add-zero (omega (arith, over))) (simp add-zero (block_inside (p / k) (omega (arith, div-mul-le_self p k))))
+        refl))
 
--- a pattern as it is: one position shows its own cell, and nothing is said of what follows
-pub block_plain : (pattern : List ℕ) (g : Placing) (p : ℕ) → placed pattern g ≡ pattern → p < length (placed pattern g)
-    → BlockAt pattern g p (record { place = p; end = p + 1; stop = 0 })
-block_plain pattern g p e h =
+    pub block_follows : (stop : ℕ) → stop ≡ (p / (k * width) + 1) * (k * width)
+        → Follows pattern (enlarged pattern k width cells) k place (p + (end - p)) stop
+    block_follows stop stop_is n less =
+        let at : p + (end - p) ≡ (p / k + 1) * k = omega (arith, over) in
+        rw (place_is, at) (further (rw (← at, ← stop_is) less))
+      where
+        further : (p / k + 1) * k + n * k < (p / (k * width) + 1) * (k * width)
+            → Shown pattern (enlarged pattern k width cells) (index_at k width p + 1 + n) ((p / k + 1) * k + n * k) k
+        further lt =
+            let q = (p / k + 1) * k + n * k in
+            let next_is : index_at k width p + (1 + n) ≡ index_at k width p + 1 + n = omega arith in
+            let sum_is : p / k + (1 + n) ≡ p / k + 1 + n = omega arith in
+            let start_is : (p / k + (1 + n)) * k ≡ q = ap (λ (x : ℕ). x * k) sum_is ∙ add-mul (p / k + 1) n k in
+            let end_of : (p / k + (1 + n) + 1) * k ≡ q + k
+            = end_is (1 + n) ∙ ap (λ (x : ℕ). x + k) start_is in
+            let low : p / (k * width) * (k * width) ≤ p = div-mul-le_self p (k * width) in
+            subst (λ (x : ℕ). Shown pattern (enlarged pattern k width cells) x q k) next_is
+            (block_shown (1 + n) q k pos (omega arith) (omega arith)
+            (block_inside (p / k + (1 + n)) (omega (arith, row_inside)))
+            (div-eq_of_lt-le (k * width) (omega (arith, over)) lt))
+
+-- what shows a cell is a block, with that cell's symbol
+pub block_shows : (pattern l : List ℕ) (p : ℕ) (b : Block) → Shown pattern l b.place p b.cells
+    → b.symbol ≡ get_or pattern b.place 0 → BlockAt l p b
+block_shows pattern l p b shown symbol = record { shows = symbol ∙ shown.shows; alike = shown.alike }
+
+module _ (pattern l : List ℕ) (k place p stop : ℕ) (follows : Follows pattern l k place p stop) where
+  -- the block behind one, in its row
+  pub next_shown : p < stop → Shown pattern l (place + 1) p k
+  next_shown lt = simp (add-zero, zero-mul) at (follows 0 (simp (add-zero, zero-mul) lt))
+
+  pub next_follows : Follows pattern l k (place + 1) (p + k) stop
+  next_follows n h =
+      let more : (n + 1) * k ≡ n * k + k = ap (λ (x : ℕ). x * k) (add-one n) ∙ suc-mul n k in
+      let at : p + k + n * k ≡ p + (n + 1) * k = omega arith in
+      let behind : place + 1 + 1 + n ≡ place + 1 + (n + 1) = omega arith in
+      rw (at, behind) (follows (n + 1) (omega arith))
+
+-- a run of alike cells: one block, and one block more where it has the same symbol
+pub alike_more : (l : List ℕ) (p n m : ℕ) → AlikeFrom l p n → AlikeFrom l (p + n) m
+    → get_or l p 0 ≡ get_or l (p + n) 0 → AlikeFrom l p (n + m)
+alike_more l p n m a b e =
     record {
-      shown =
-          record {
-            inside = omega (arith, ap length e);
-            shows = ap (λ (l : List ℕ). get_or l p 0) (sym e);
-            alike = alike_self (placed pattern g) p;
-          };
-      onward = λ n lt. absurd (none n lt);
+      some = omega (arith, a.some);
+      inside = omega (arith, b.inside);
+      same = λ q lt. go q lt (lt_tested q n);
     }
   where
-    none : (n : ℕ) → p + 1 + n * g.scale < 0 → ⊥
-    none n lt = omega arith
+    go : (q : ℕ) {t : Bool} → q < n + m → Tested (q < n) t → get_or l p 0 ≡ get_or l (p + q) 0
+    go q lt (holds h) = a.same q h
+    go q lt (fails h) =
+        let at : p + n + (q - n) ≡ p + q = omega arith in
+        e ∙ b.same (q - n) (omega arith) ∙ ap (λ (x : ℕ). get_or l x 0) at
 
-shown_same : (pattern : List ℕ) (g : Placing) (a b p q d e : ℕ) → a ≡ b → p ≡ q → d ≡ e → Shown pattern g a p d
-    → Shown pattern g b q e
-shown_same pattern g a b p q d e ab pq de h = rw (← ab, ← pq, ← de) h
-
--- the block behind one, in its row
-pub block_next : (pattern : List ℕ) (g : Placing) (b : Block) → Onward pattern g b → b.end < b.stop
-    → BlockAt pattern g b.end (record { place = b.place + 1; end = b.end + g.scale; stop = b.stop })
-block_next pattern g b onward lt =
-    record {
-      shown =
-          let none : 0 * g.scale ≡ 0 = zero-mul g.scale in
-          shown_same pattern g _ _ _ _ _ _ (omega arith) (omega arith) (omega arith) (onward 0 (omega arith));
-      onward = λ n h.
-          let more : (n + 1) * g.scale ≡ n * g.scale + g.scale = next n in
-          shown_same pattern g _ _ _ _ _ _ (omega arith) (omega arith) (omega arith) (onward (n + 1) (omega arith));
-    }
-  where
-    next : (n : ℕ) → (n + 1) * g.scale ≡ n * g.scale + g.scale
-    next n = ap (λ (x : ℕ). x * g.scale) (add-one n) ∙ suc-mul n g.scale
-
--- before the block of a position
-pub onward_none : (pattern : List ℕ) (g : Placing) (b : Block) → b.stop ≡ 0 → Onward pattern g b
-onward_none pattern g b e n lt = absurd (none (rw (← e) lt))
-  where
-    none : b.end + n * g.scale < 0 → ⊥
-    none h = omega arith
+-- and as far as it goes it goes shorter
+pub alike_shorter : (l : List ℕ) (p n r : ℕ) → 0 < r → r ≤ n → AlikeFrom l p n → AlikeFrom l p r
+alike_shorter l p n r some le a =
+    record { some = some; inside = omega (arith, a.inside); same = λ q lt. a.same q (omega arith) }

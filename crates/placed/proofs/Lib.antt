@@ -1,1 +1,3 @@
 pub mod BlockLaws
+pub mod Firsts
+pub mod Laid

@@ -1,29 +1,33 @@
--- From block to block of a pattern as it lies: what a block shows, how far it goes, and what follows it in its row.
+-- The blocks of a pattern as it lies: what a block shows, how far it goes, and what follows it in its row.
 -- Assumes nothing.
 use Rattle.std.specs.Prelude.{◌≡◌, List, ℕ, ◌+◌, ◌*◌, ◌≤◌, ◌<◌, length, get_or}
-use Rattle.placed.specs.Placing.{placed}
-use Rattle.placed.specs.declared.blocks.Block.{Block}
-use Rattle.placed.specs.declared.placing.Placing.{Placing}
+use Rattle.placed.specs.declared.block.Block.{Block}
 
--- the cells of a list from p to before r are alike
-pub record AlikeTo (l : List ℕ) (p r : ℕ) : Type 0 where
-  pub past : p < r
-  pub near : r ≤ p + 65025
-  pub alike : (q : ℕ) → p ≤ q → q < r → q < length l → get_or l p 0 ≡ get_or l q 0
+-- n cells of a list from p on are alike
+pub record AlikeFrom (l : List ℕ) (p n : ℕ) : Type 0 where
+  pub some : 0 < n
+  pub inside : p + n ≤ length l
+  pub same : (k : ℕ) → k < n → get_or l p 0 ≡ get_or l (p + k) 0
 
--- the positions from p to before end show the pattern's cell at a place
-pub record Shown (pattern : List ℕ) (g : Placing) (place p end : ℕ) : Type 0 where
+-- b is the block of position p of a pattern whose cells are l
+pub record BlockAt (l : List ℕ) (p : ℕ) (b : Block) : Type 0 where
+  pub shows : b.symbol ≡ get_or l p 0
+  pub alike : AlikeFrom l p b.cells
+
+-- n cells from p on are alike, of so many at most, and if fewer, the next one is not
+pub record Repeats (l : List ℕ) (p most n : ℕ) : Type 0 where
+  pub few : n ≤ most
+  pub alike : AlikeFrom l p n
+  pub stops : n < most → get_or l p 0 ≡ get_or l (p + n) 0 → ⊥
+
+-- n positions of an enlargement l from p on show the pattern's cell at a place
+pub record Shown (pattern l : List ℕ) (place p n : ℕ) : Type 0 where
   pub inside : place < length pattern
-  pub shows : get_or pattern place 0 ≡ get_or (placed pattern g) p 0
-  pub alike : AlikeTo (placed pattern g) p end
+  pub shows : get_or pattern place 0 ≡ get_or l p 0
+  pub alike : AlikeFrom l p n
 
--- what follows a block in its row: block after block, each of as many positions as the scale, the pattern's next cells
-abbrev pub Onward : List ℕ → Placing → Block → Type 0
-Onward pattern g b =
-    (n : ℕ) → b.end + n * g.scale < b.stop
-    → Shown pattern g (b.place + 1 + n) (b.end + n * g.scale) (b.end + n * g.scale + g.scale)
-
--- b is the block of position p
-pub record BlockAt (pattern : List ℕ) (g : Placing) (p : ℕ) (b : Block) : Type 0 where
-  pub shown : Shown pattern g b.place p b.end
-  pub onward : Onward pattern g b
+-- what follows in a row of an enlargement, from p on up to stop, behind a block that shows the pattern's cell at a
+-- place: block after block, each of as many positions as the scale, the pattern's next cells
+abbrev pub Follows : List ℕ → List ℕ → ℕ → ℕ → ℕ → ℕ → Type 0
+Follows pattern l scale place p stop =
+    (n : ℕ) → p + n * scale < stop → Shown pattern l (place + 1 + n) (p + n * scale) scale

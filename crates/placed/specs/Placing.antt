@@ -1,12 +1,11 @@
--- A pattern as it lies: as it is, or each of its cells enlarged to scale by scale cells. Everything that is compared is
--- said of this list (`placed`), and the code reads it off the pattern.
+-- An enlargement of a pattern: each of its cells stands k by k times. Everything that is compared is said of the list
+-- of its cells (`enlarged`), and the code reads them off the pattern.
 -- Assumes nothing.
 pub mod Laws
 pub mod Places
-use Rattle.std.specs.Prelude.{◌≡◌, Bool, List, [], ℕ, ◌+◌, ◌*◌, ◌/◌, ◌%◌, ◌≤◌, eqb, leb, length, get_or}
-use Rattle.theory.specs.Test.{pick, both}
+use Rattle.std.specs.Prelude.{◌≡◌, List, ℕ, ◌+◌, ◌*◌, ◌/◌, ◌%◌, ◌≤◌, ltb, get_or}
+use Rattle.theory.specs.Test.{pick}
 use Rattle.theory.specs.Table.{table}
-use Rattle.placed.specs.declared.placing.Placing.{Placing}
 
 -- the place of the pattern's cell that position p of its enlargement by k shows: cell (i, j) shows cell (i / k, j / k);
 -- a row of the pattern has width cells, one of the enlargement k times as many
@@ -17,35 +16,25 @@ index_at k width p = p / (k * width) / k * width + p % (k * width) / k
 abbrev pub laid_at : ℕ → ℕ → ℕ → ℕ
 laid_at k width p = (p / width * (k * width) + p % width) * k
 
+-- where the pattern's cell at place p is shown first; 0 where it has no such place
+unfoldable pub laid_place_of : ℕ → ℕ → ℕ → ℕ → ℕ
+laid_place_of k height width p = pick (ltb p (height * width)) (laid_at k width p) 0
+
 -- what a position is multiplied by where it is divided by d
 abbrev pub inverse : ℕ → ℕ
 inverse d = 4294967296 / d + 1
 
+-- the enlargement by k of a pattern of that width, of so many cells
+abbrev pub enlarged : List ℕ → ℕ → ℕ → ℕ → List ℕ
+enlarged pattern k width cells = table (λ p. get_or pattern (index_at k width p) 0) cells
+
 -- what the code needs of the numbers of an enlargement: its cells are few, and the inverses right
-pub record Sound (g : Placing) : Type 0 where
-  pub scaled : 1 ≤ g.scale
-  pub tall : 1 ≤ g.height
-  pub broad : 1 ≤ g.width
-  pub cells_is : g.cells ≡ g.scale * g.height * (g.scale * g.width)
-  pub few : g.cells ≤ 65025
-  pub by_scale : g.by_scale ≡ inverse g.scale
-  pub by_width : g.by_width ≡ inverse (g.scale * g.width)
-  pub by_block : g.by_block ≡ inverse (g.scale * g.width * g.scale)
-
-pub sound : Placing → Bool
-sound g =
-    both (leb 1 g.scale) (both (leb 1 g.height) (both (leb 1 g.width)
-    (both (eqb g.cells (g.scale * g.height * (g.scale * g.width))) (both (leb g.cells 65025)
-    (both (eqb g.by_scale (inverse g.scale)) (both (eqb g.by_width (inverse (g.scale * g.width)))
-    (eqb g.by_block (inverse (g.scale * g.width * g.scale)))))))))
-
--- the enlargement by sound numbers of a pattern of those sides; of numbers or sides that are not, it has no cells, so
--- that who knows of a cell knows that they are
-unfoldable pub enlarged_by : List ℕ → Placing → List ℕ
-enlarged_by pattern g =
-    pick (both (sound g) (eqb (length pattern) (g.height * g.width)))
-    (table (λ p. get_or pattern (index_at g.scale g.width p) 0) g.cells) []
-
--- the pattern as it lies
-abbrev pub placed : List ℕ → Placing → List ℕ
-placed pattern g = pick (eqb g.scale 1) pattern (enlarged_by pattern g)
+pub record Sound (scale height width cells by_scale by_width by_block : ℕ) : Type 0 where
+  pub scaled : 1 ≤ scale
+  pub tall : 1 ≤ height
+  pub broad : 1 ≤ width
+  pub cells_is : cells ≡ scale * height * (scale * width)
+  pub few : cells ≤ 65025
+  pub scale_inverse : by_scale ≡ inverse scale
+  pub width_inverse : by_width ≡ inverse (scale * width)
+  pub block_inverse : by_block ≡ inverse (scale * width * scale)

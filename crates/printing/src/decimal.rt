@@ -9,7 +9,7 @@ use listing::bytes::put;
 // Writes a number's digits at a place, where there is room for them; the place after them.
 fn write_decimal(output: &mut [u8], at: usize, n: u8) -> usize
     requires { at + length (decimal n) ≤ length output.old }
-    ensures value { result ≡ at + length (decimal n) }
+    ensures end { result ≡ at + length (decimal n) }
     ensures output_after { output.new ≡ written output.old at (decimal n) }
 {
     if n < 10 {
@@ -28,7 +28,7 @@ fn write_decimal(output: &mut [u8], at: usize, n: u8) -> usize
 // The digits, and a byte behind them: a space or a line feed.
 pub fn write_item(output: &mut [u8], at: usize, n: u8, mark: u8) -> usize
     requires { at + length (decimal n ++ (mark ∷ [])) ≤ length output.old }
-    ensures value { result ≡ at + length (decimal n ++ (mark ∷ [])) }
+    ensures end { result ≡ at + length (decimal n ++ (mark ∷ [])) }
     ensures output_after { output.new ≡ written output.old at (decimal n ++ (mark ∷ [])) }
 {
     let end = write_decimal(output, at, n);

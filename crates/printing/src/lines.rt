@@ -11,15 +11,17 @@ use reading::reader::Cursor;
 // Writes the line of some bytes at a place; the place after it.
 fn write_line(output: &mut [u8], at: usize, bytes: &[u8]) -> usize
     requires { (0 < length bytes.now) × (at + length (line_of bytes.now) ≤ length output.old) }
-    ensures value { result ≡ at + length (line_of bytes.now) }
+    ensures end { result ≡ at + length (line_of bytes.now) }
     ensures output_after { output.new ≡ written output.old at (line_of bytes.now) }
 {
-    let last = bytes.len() - 1;
+    let Some((last, before)) = bytes.split_last() else {
+        unreachable!()
+    };
     let mut end = at;
-    for b in &bytes[..last] {
+    for b in before {
         end = write_item(output, end, *b, b' ');
     }
-    write_item(output, end, bytes[last], b'\n')
+    write_item(output, end, *last, b'\n')
 }
 
 // Writes the lines of a listing's records at a place; the place after them. A byte of the listing takes at most four:
@@ -37,10 +39,11 @@ pub fn write_lines(output: &mut [u8], at: usize, listing: &[u8]) -> usize
     end
 }
 
-// Writes the line of a refusal with that number at a place; the place after it.
+// Writes the line of a refusal with that number at a place; the place after it. Beside `Display` of a refusal: that
+// hands text to a writer and promises none of it, this writes into a lent buffer, with a contract for every byte.
 pub fn write_refusal(output: &mut [u8], at: usize, number: u8) -> usize
     requires { at + length (refusal_line number) ≤ length output.old }
-    ensures value { result ≡ at + length (refusal_line number) }
+    ensures end { result ≡ at + length (refusal_line number) }
     ensures output_after { output.new ≡ written output.old at (refusal_line number) }
 {
     let end = put(output, at, b"refused ");

@@ -16,7 +16,6 @@ use Rattle.refusals.specs.Said.{Said, accepts, refuses, ◌then◌, check, said_
 use Rattle.shapes.specs.Questions.{sides_of, sides_said, cells_said, size_said}
 use Rattle.shapes.specs.declared.shapes.Shape.{Shape}
 use Rattle.listing.specs.declared.records.Record.{Record}
-use Rattle.shapes.specs.Shapes.{fits}
 use Rattle.listing.specs.Entries.{bytes_all}
 use Rattle.entries.specs.Listing.{search_listing, needed_length}
 use Rattle.entries.specs.Listing.Length.{length_listing}

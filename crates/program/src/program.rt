@@ -9,9 +9,10 @@ ghost use Rattle.input.specs.Input.{RightInput};
 
 use input::input::input_outcome;
 use printing::lines::{write_lines, write_refusal};
-use refusals::refusals::{Outcome, Refusal, refusal_number};
+use refusals::refusals::Refusal;
 use search::search::search;
-use searched::answer::Searched;
+use shapes::question::Question;
+use shapes::tables::table;
 
 // The first length bytes are the output. The longest listing has 65,536 bytes, and a byte of it takes at most four.
 #[derive(Drop)]
@@ -20,39 +21,12 @@ pub struct Output {
     pub length: usize,
 }
 
-fn output_buffer() -> [u8; 262144]
-    ensures { 262144 ≡ length result }
-{
-    [0; 262144]
-}
-
-// The program's listing buffer.
-fn listing_buffer() -> [u8; 65536]
-    ensures { 65536 ≡ length result }
-{
-    [0; 65536]
-}
-
-// Links or counts: an entry for each cell of the largest text.
-fn entry_buffer() -> [u16; 16384]
-    ensures { 16384 ≡ length result }
-{
-    [0; 16384]
-}
-
-// Flags, likewise.
-fn flag_buffer() -> [u8; 16384]
-    ensures { 16384 ≡ length result }
-{
-    [0; 16384]
-}
-
 // The output of a refused input.
 fn refused_output(why: Refusal) -> Output
     ensures { Begins result.length result.bytes (refusal_line (number_of why)) }
 {
-    let mut bytes = output_buffer();
-    let length = write_refusal(&mut bytes, 0, refusal_number(why));
+    let mut bytes = table(0);
+    let length = write_refusal(&mut bytes, 0, u8::from(why));
     Output { bytes, length }
 }
 
@@ -61,7 +35,7 @@ fn listed_output(listing: &[u8]) -> Output
     requires { Recorded listing.now × (length listing.now ≤ 65536) }
     ensures { BeginsWithLines listing.now result.length result.bytes }
 {
-    let mut bytes = output_buffer();
+    let mut bytes = table(0);
     let length = write_lines(&mut bytes, 0, listing);
     Output { bytes, length }
 }
@@ -71,47 +45,33 @@ fn searched_output(input: &[u8]) -> Output
     requires { RightInput input.now }
     ensures { Begins result.length result.bytes (output_of input.now) }
 {
-    let rows = input[0] as usize;
-    let columns = input[1] as usize;
-    let height = input[2] as usize;
-    let width = input[3] as usize;
+    let rows = usize::from(input[0]);
+    let columns = usize::from(input[1]);
+    let height = usize::from(input[2]);
+    let width = usize::from(input[3]);
     let cut = 4 + rows * columns;
     let text = &input[4..cut];
     let pattern = &input[cut..];
-    let mut links = entry_buffer();
-    let mut counts = entry_buffer();
-    let mut flags = flag_buffer();
-    let mut listing = listing_buffer();
-    let answer = search(
-        text,
-        rows,
-        columns,
-        pattern,
-        height,
-        width,
-        &mut links,
-        &mut counts,
-        &mut flags,
-        &mut listing,
-    );
+    // An entry for each cell of the largest text, and the longest listing.
+    let mut links: [u16; 16384] = table(0);
+    let mut counts: [u16; 16384] = table(0);
+    let mut flags: [u8; 16384] = table(0);
+    let mut listing: [u8; 65536] = table(0);
+    let q = Question::new(text, rows, columns, pattern, height, width);
+    let answer = search(q, &mut links, &mut counts, &mut flags, &mut listing);
     match answer {
-        Searched::Listed {
-            found: _,
-            refused: _,
-            length,
-        } => listed_output(&listing[..length]),
-        Searched::Refused(why) => refused_output(why),
+        Ok(totals) => listed_output(&listing[..totals.length]),
+        Err(why) => refused_output(why),
     }
 }
 
 // What the program prints for an input.
 pub fn answer(input: &[u8]) -> Output
     ensures prefix_len { IsPrefixLen result.length result.bytes }
-    ensures bytes_value { take result.length result.bytes ≡ output_of input.now }
+    ensures output { take result.length result.bytes ≡ output_of input.now }
 {
-    let outcome = input_outcome(input);
-    match outcome {
-        Outcome::Refused(why) => refused_output(why),
-        Outcome::Accepted => searched_output(input),
+    match input_outcome(input) {
+        Err(why) => refused_output(why),
+        Ok(()) => searched_output(input),
     }
 }

@@ -1,5 +1,4 @@
 // How far one window of a strip agrees with a pattern, row by row.
 #![tactic(auto)]
 
-pub mod laid;
 pub mod reach;

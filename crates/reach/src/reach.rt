@@ -3,10 +3,12 @@ ghost use Rattle.std.specs.Prelude.{◌+◌, ◌-◌, ◌<◌};
 ghost use Rattle.reach.specs.Reach.{ReachAt, Reached};
 
 use grid::strips::Strip;
+use placed::pattern::Pattern;
 use rows::rows::{earlier_by, part_end};
 
 // The place in the strip at which a mismatch of a window ends first, with the mismatch's earlier position in the
-// window; or the place at which the window ends, with 0.
+// window; or the place at which the window ends, with 0. No Option: up to which place the window agrees is asked in
+// both cases.
 #[derive(Clone, Copy)]
 pub struct Far {
     pub place: usize,
@@ -15,10 +17,10 @@ pub struct Far {
 
 // How far the window of height rows from row top on agrees: it is known to agree up to column j of row line of the
 // strip.
-pub fn reach(
-    text: &[u8],
+pub fn reach<P: Pattern, T: Pattern>(
+    text: T,
     s: Strip,
-    pattern: &[u8],
+    pattern: P,
     first: &[usize; 256],
     last: &mut [usize; 256],
     top: usize,
@@ -26,32 +28,28 @@ pub fn reach(
     line: usize,
     j: usize,
 ) -> Far
-    requires { ReachAt text.now s pattern.now first.now last.old top height line j }
-    ensures { Reached text.now s pattern.now top height result last.new }
+    requires { ReachAt (T.cells text) s (P.cells pattern) first.now last.old top height line j }
+    ensures { Reached (T.cells text) s (P.cells pattern) top height result last.new }
 {
     let width = s.width;
     let start = top * width;
-    let stop = (top + height) * width;
-    let mut at = line * width + j;
     let mut column = j;
-    let mut begin = line * s.columns + s.left + j;
-    while at < stop {
+    for row in line..top + height {
+        let at = row * width + column;
+        let begin = row * s.columns + s.left + column;
         let part = width - column;
-        let row = &text[begin..begin + part];
-        let r = part_end(pattern, row, first, last, start, at - start);
+        let r = part_end(pattern, text, begin, part, first, last, start, at - start);
         if r < part {
-            let x = row[r] as usize;
+            let x = usize::from(text.at(begin + r));
             return Far {
                 place: at + r,
                 earlier: earlier_by(pattern, first, start, last[x], at - start + r),
             };
         }
-        at += part;
-        begin += s.columns - column;
         column = 0;
     }
     Far {
-        place: at,
+        place: (top + height) * width,
         earlier: 0,
     }
 }

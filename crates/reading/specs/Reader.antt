@@ -3,7 +3,8 @@
 pub mod Reading
 pub mod Answers
 pub mod RoundTrip
-use Rattle.std.specs.Prelude.{◌≡◌, Bool, List, [], ◌∷◌, ℕ, zero, suc, ◌+◌, ◌<◌, ltb, leb, length, get_or, take, drop, Result}
+use Rattle.std.proofs.Common.{◌≡◌, Bool, List, [], ◌∷◌, ℕ, zero, suc, ◌+◌, ◌<◌, ltb, leb, length, get_or, take, drop}
+use Rattle.std.proofs.Common.{Result}
 use Rattle.theory.specs.Test.{both}
 use Rattle.refusals.specs.Said.{Said, accepts, ◌then◌, check_with, answer_said}
 use Rattle.refusals.specs.declared.refusals.Refusal.{Refusal}

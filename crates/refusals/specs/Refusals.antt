@@ -2,7 +2,8 @@
 -- refusal and what it returns besides.
 -- Assumes nothing.
 pub mod Laws
-use Rattle.std.specs.Prelude.{ℕ, List, [], ◌∷◌}
+use Rattle.std.specs.Prelude.{ℕ, List, [], ◌∷◌, Option, Some, None}
+use Rattle.std.specs.Option.{option_to_list}
 use Rattle.refusals.specs.declared.refusals.Refusal.{Refusal}
 use Rattle.refusals.specs.declared.refusals.Reason.{Reason}
 use Rattle.refusals.specs.declared.refusals.Reason.TheVariants.{SizesMissing, SideRange, CellCount, TooLarge}
@@ -37,14 +38,17 @@ number_of (ListingFalse at) = 7
 number_of (ListingBufferShort needed) = 11
 number_of (CursorSpent at) = 15
 
--- what a refusal returns besides its number: a place in the listing for 6, 7 and 15, the length needed for 11. (The
--- bijection that 14, 12 and 13 return as given holds arrays, and so stands beside the enum.)
+-- what a refusal returns besides its number: a place in the listing for 6, 7 and 15, the length needed for 11
+abbrev pub value_of : Refusal → Option ℕ
+value_of (Plain why) = None
+value_of (ListingForm at) = Some at
+value_of (ListingFalse at) = Some at
+value_of (ListingBufferShort needed) = Some needed
+value_of (CursorSpent at) = Some at
+
+-- the same as a list
 abbrev pub values_of : Refusal → List ℕ
-values_of (Plain why) = []
-values_of (ListingForm at) = at ∷ []
-values_of (ListingFalse at) = at ∷ []
-values_of (ListingBufferShort needed) = needed ∷ []
-values_of (CursorSpent at) = at ∷ []
+values_of why = option_to_list (value_of why)
 
 -- What the inner functions' contracts cite.
 

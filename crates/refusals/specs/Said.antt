@@ -3,12 +3,10 @@
 -- refuses.
 -- Assumes nothing.
 pub mod Laws
-use Rattle.std.specs.Prelude.{Bool, List, [], ◌++◌, ℕ, length, drop, Result, Ok, Err}
+use Rattle.std.specs.Prelude.{Bool, List, [], ◌++◌, ℕ, length, drop, Result, Ok, Err, ⊤}
 use Rattle.theory.specs.Test.{pick}
 use Rattle.refusals.specs.Refusals.{number_of, values_of}
 use Rattle.refusals.specs.declared.refusals.Refusal.{Refusal}
-use Rattle.refusals.specs.declared.refusals.Outcome.{Outcome}
-use Rattle.refusals.specs.declared.refusals.Outcome.TheVariants.{Accepted, Refused}
 
 -- accepted, with what is returned; or refused by a number, with what the refusal returns besides
 pub data Said : Type 0 where
@@ -66,16 +64,22 @@ filled_by said new old = record { said = said; buffer = buffer_by said new old }
 abbrev pub refusal_said : Refusal → Said
 refusal_said why = refuses (number_of why) (values_of why)
 
--- what an outcome says
-abbrev pub outcome_said : Outcome → Said
-outcome_said Accepted = accepts []
-outcome_said (Refused why) = refusal_said why
+-- what an answer says: what it gives as values, or its refusal
+abbrev pub answer_said : {A : Type 0} → (A → List ℕ) → Result A Refusal → Said
+answer_said values (Ok answer) = accepts (values answer)
+answer_said values (Err why) = refusal_said why
+
+-- what an outcome says, which gives nothing
+abbrev pub outcome_said : Result ⊤ Refusal → Said
+outcome_said o = answer_said (λ _. []) o
 
 -- an outcome, and what the buffer holds
-abbrev pub filled : Outcome → List ℕ → Filled
+abbrev pub filled : Result ⊤ Refusal → List ℕ → Filled
 filled o buffer = record { said = outcome_said o; buffer = buffer }
 
--- what an answer says: accepted, with the numbers of its value; or the refusal
-abbrev pub answer_said : {A : Type 0} → (A → List ℕ) → Result A Refusal → Said
-answer_said values (Ok value) = accepts (values value)
-answer_said values (Err why) = refusal_said why
+-- What the inner functions' contracts cite.
+
+-- the number of an answer, whatever it gives
+abbrev pub number_in : {A : Type 0} → Result A Refusal → ℕ
+number_in (Ok answer) = 0
+number_in (Err why) = number_of why

@@ -9,10 +9,9 @@ use Rattle.theory.specs.Bytes.{Bytes}
 use Rattle.refusals.specs.Said.{Said, accepts, said_number}
 use Rattle.shapes.specs.Questions.{Question}
 use Rattle.entries.specs.Listing.{found_in, refused_in, needed_length}
-use Rattle.searched.specs.Search.{Lent, done, search_of, list_done, list_of}
+use Rattle.searched.specs.Search.{totalling, Lent, done, search_of, list_done, list_of}
 use Rattle.searched.specs.Theorems.{search_zero}
 use Rattle.searched.specs.Parts.{listing_zero}
-use Rattle.searched.specs.declared.answer.Searched.TheVariants.{Listed}
 use Rattle.rules.specs.Check.{check_of}
 use Rattle.rules.proofs.Theorems.{check_zero}
 use Rattle.guarantee.specs.Demand3.{Demand3, Shows, ListsAnswers}
@@ -36,7 +35,7 @@ searched_from_outside q l after number old totals n t b bytes zero =
     values : totals ≡ found_in q ∷ refused_in q ∷ needed_length q ∷ []
     values = t ∙ ap (λ (s : Said). values_by 2 s old) said
 
-    whole : done (Listed (found_in q) (refused_in q) (needed_length q)) after ≡ search_of q l
+    whole : done (totalling (found_in q) (refused_in q) (needed_length q)) after ≡ search_of q l
     whole = rw (b, ← said)
 
 -- of the exported List
@@ -55,7 +54,7 @@ listed_from_outside q flags old after number before totals n t b bytes zero =
     values : totals ≡ found_in q ∷ refused_in q ∷ needed_length q ∷ []
     values = t ∙ ap (λ (s : Said). values_by 2 s before) said
 
-    whole : list_done (Listed (found_in q) (refused_in q) (needed_length q)) after ≡ list_of q flags old
+    whole : list_done (totalling (found_in q) (refused_in q) (needed_length q)) after ≡ list_of q flags old
     whole = rw (b, ← said)
 
 -- of the exported check

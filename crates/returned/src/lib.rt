@@ -2,5 +2,5 @@
 #![tactic(auto)]
 
 pub mod checking;
-pub mod scales;
+mod refused;
 pub mod searching;

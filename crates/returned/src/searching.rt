@@ -1,40 +1,48 @@
-// What the search answers, in numbers.
-ghost use Rattle.std.specs.Prelude.{◌≡◌};
+// What the search answers, at one scale and at every scale, in numbers.
+ghost use Rattle.std.specs.Prelude.{◌≡◌, ℕ};
 ghost use Rattle.refusals.specs.Said.{said_number};
-ghost use Rattle.searched.specs.Search.{searched_said};
-ghost use Rattle.returned.specs.Returned.{values_by};
+ghost use Rattle.returned.specs.Returned.{totals_said, values_by};
 
-use refusals::refusals::{refusal_number, value_or};
-use searched::answer::Searched;
+use crate::refused::refused_numbers;
+use listing::totals::Totals;
+use refusals::refusals::{Refusal, answer_number};
 
-// The number of an answer.
-pub fn searched_number(answer: Searched) -> u8
-    ensures { result ≡ said_number (searched_said answer) }
-{
-    match answer {
-        Searched::Listed {
-            found: _,
-            refused: _,
-            length: _,
-        } => 0,
-        Searched::Refused(why) => refusal_number(why),
+// How many windows: of one scale that takes 16 bits, of all scales together more. A trait of its own: `usize: From<N>`
+// gives a contract a relation between two numbers, and not the number that a count is.
+pub trait Number: Copy {
+    ghost number: { Self → ℕ };
+
+    fn wide(self) -> usize
+        ensures { result ≡ number self };
+}
+
+impl Number for u16 {
+    ghost number = { λ n. n };
+
+    fn wide(self) -> usize {
+        usize::from(self)
     }
 }
 
-// The totals after an answer: found, refused and the length, or what a refusal returns in the last of them.
-pub fn searched_totals(answer: Searched, old: [usize; 3]) -> [usize; 3]
-    ensures { result ≡ values_by 2 (searched_said answer) old }
-{
-    match answer {
-        Searched::Listed {
-            found,
-            refused,
-            length,
-        } => [found as usize, refused as usize, length],
-        Searched::Refused(why) => {
-            let mut totals = old;
-            totals[2] = value_or(why, old[2]);
-            totals
-        }
+impl Number for usize {
+    ghost number = { λ n. n };
+
+    fn wide(self) -> usize {
+        self
     }
+}
+
+// Hands an answer on: its totals are written, found, refused and length, or what a refusal returns in the last of them;
+// and its number is returned.
+#[tactic(auto, using(refusals::specs::Said::Laws::number_said))]
+pub fn return_totals<N: Number>(answer: Result<Totals<N>, Refusal>, totals: &mut [usize; 3]) -> u8
+    ensures number { result ≡ said_number (totals_said N.number answer) }
+    ensures totals_after { totals.new ≡ values_by 2 (totals_said N.number answer) totals.old }
+{
+    let number = answer_number(&answer);
+    *totals = match answer {
+        Ok(t) => [t.found.wide(), t.refused.wide(), t.length],
+        Err(why) => refused_numbers(why, 2, *totals),
+    };
+    number
 }

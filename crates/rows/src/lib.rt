@@ -1,6 +1,6 @@
-// One row of a window against a pattern, symbol by symbol, with two tables of 256 positions.
+// A part of a row of a window against a pattern, symbol by symbol, with two tables of 256 positions; and what a run
+// down a strip knows.
 #![tactic(auto)]
 
-pub mod laid;
-pub mod places;
 pub mod rows;
+pub mod run;

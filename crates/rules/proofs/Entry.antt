@@ -1,11 +1,8 @@
 -- The records of one window: the walk passes them (`entry_sound`, `entry_complete`) exactly where an entry that is true
 -- of the window stands in the listing.
 -- Assumes nothing.
-use Rattle.std.specs.Prelude.{◌≡◌, ℕ, ◌+◌, ◌*◌, ◌/◌, ◌%◌, ◌<◌, length, get_or}
-use Rattle.std.proofs.Math.Path.{refl, ap}
-use Rattle.std.proofs.Common.{sym, ◌∙◌, arith}
-use Rattle.std.proofs.Math.Bool.{Bool, true, false}
-use mathlib.Core.List.{List, [], ◌∷◌, ◌++◌}
+use Rattle.std.proofs.Common.{◌≡◌, ℕ, ◌+◌, ◌*◌, ◌/◌, ◌%◌, ◌<◌, length, get_or, refl, ap, sym, ◌∙◌, arith, Bool, true}
+use Rattle.std.proofs.Common.{false, List, [], ◌∷◌, ◌++◌, Ok, Err}
 use Rattle.theory.specs.Test.{pick}
 use Rattle.theory.specs.Test.Laws.{true_false, is_true, says_true, both_tested}
 use Rattle.theory.specs.Count.{Rising}
@@ -14,7 +11,8 @@ use Rattle.theory.specs.Match.{Maps, Mismatch, Answer, matched, mismatched, is_m
 use Rattle.sets.specs.Symbols.{symbols_of}
 use Rattle.occurrences.specs.Distinct.{contains}
 use Rattle.occurrences.specs.Distinct.Sets.{contains_none, contains_tested}
-use Rattle.matching.specs.Compare.{cell_of_pattern, window_of, cell_count}
+use Rattle.matching.specs.Compare.{cell_of_pattern}
+use Rattle.view.specs.Places.{window_of, cell_count}
 use Rattle.cells.specs.declared.windows.WindowPlace.{WindowPlace}
 use Rattle.listing.specs.Records.{bytes_of, mismatch_bytes, kind_size}
 use Rattle.reading.specs.Reader.{bytes_from}
@@ -25,7 +23,6 @@ use Rattle.listing.specs.declared.records.Record.TheVariants.{Found}
 use Rattle.refusals.specs.declared.refusals.Refusal.TheVariants.{ListingForm, ListingFalse}
 use Rattle.claims.specs.Claims.{or_stop, byte_at, stands, pairs_from}
 use Rattle.claims.specs.Claims.{Walk}
-use Rattle.std.specs.Prelude.{Ok, Err}
 use Rattle.rules.specs.Check.{is_due, right_mismatch, entry_from}
 use Rattle.rules.specs.Rules.Bytes.{Holds, holds_both, holds_first, holds_second, holds_byte, holds_stands}
 use Rattle.rules.specs.Rules.Bytes.{stands_holds, stands_other}

@@ -2,13 +2,8 @@
 -- the counts that they have. It needs only what the operation ensures (`check_of`), and that pattern and listing are
 -- bytes, which they are wherever code holds them.
 -- Assumes nothing.
-use Rattle.std.specs.Prelude.{◌≡◌, refl, ◌↔◌, get_or}
-use Rattle.std.proofs.Math.Path.{sym, ap, subst}
-use Rattle.std.proofs.Common.{◌∙◌, zero-add, arith}
-use Rattle.std.proofs.Math.Bool.{not}
-use mathlib.Core.List.{List, [], ◌∷◌, ◌++◌}
-use Prim.Native.Nat.{ℕ, ◌+◌, ◌<◌}
-use Rattle.std.proofs.Math.ListN.{length, length-append}
+use Rattle.std.proofs.Common.{◌≡◌, refl, ◌↔◌, get_or, sym, ap, subst, ◌∙◌, zero-add, arith, not, List, [], ◌∷◌, ◌++◌, ℕ}
+use Rattle.std.proofs.Common.{◌+◌, ◌<◌, length, length-append, Ok, Err}
 use Rattle.theory.specs.Bytes.{Bytes}
 use Rattle.theory.specs.Count.{count}
 use Rattle.theory.specs.Count.Laws.{count_ext}
@@ -26,17 +21,19 @@ use Rattle.listing.specs.Entries.{bytes_all}
 use Rattle.listing.specs.Entries.Laws.{bytes_append, bytes_one}
 use Rattle.listing.specs.declared.records.Record.TheVariants.{Closing}
 use Rattle.claims.specs.Claims.{Walk}
-use Rattle.std.specs.Prelude.{Ok, Err}
 use Rattle.rules.specs.Rules.Bytes.{Holds, holds_all, holds_both, holds_first, holds_second, holds_whole}
 use Rattle.rules.specs.Rules.{Entries, records_to, Keeps, KeepsRules}
 use Rattle.rules.proofs.Windows.{onward_goes, closing_sound, closing_complete, entries_read, bytes_to}
 use Rattle.rules.proofs.Windows.{windows_sound, windows_complete, kinds_complete}
-use Rattle.std.specs.Prelude.{Ok, Err}
 use Rattle.rules.specs.Check.{Checked, kept}
 
 -- an answer by what it says
 kept_values : (a b c d : ℕ) → accepts (a ∷ b ∷ []) ≡ accepts (c ∷ d ∷ []) → (a ≡ c) × (b ≡ d)
-kept_values a b c d e = (ap (λ (x : Said). get_or (said_values x) 0 0) e, ap (λ (x : Said). get_or (said_values x) 1 0) e)
+kept_values a b c d e = (
+  ap (λ (x : Said). get_or (said_values x) 0 0) e,
+  ap (λ (x : Said). get_or (said_values x) 1
+      0) e,
+)
 
 kept_is : (r : Checked) (found refused : ℕ) → checked_said r ≡ accepts (found ∷ refused ∷ []) → r ≡ kept found refused
 kept_is (Ok t) found refused e = let k = kept_values t.found t.refused found refused e in rw (← k.0, ← k.1) refl
@@ -152,7 +149,8 @@ module _ (q : Question) (listing : List ℕ) where
     pub accepts_only : Bytes listing → (found refused : ℕ) → r ≡ kept found refused → KeepsRules q listing found refused
     unfolding check_of
     accepts_only listing_bytes found refused e =
-        let a = then_both (shape_said q) (listing_said q listing) (found ∷ refused ∷ []) (sym checks ∙ ap checked_said e)
+        let a = then_both (shape_said q) (listing_said q listing) (found ∷ refused ∷ []) (sym checks
+        ∙ ap checked_said e)
         in
         listing_sound pattern_bytes (posed q a.0.0 a.0.1) listing_bytes found refused a.1
 

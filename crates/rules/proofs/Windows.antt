@@ -3,12 +3,9 @@
 -- them at its end. Why it holds: window by window the bytes passed so far are the bytes of the entries so far; and
 -- where entries make up the listing, each stands where the one before it ends.
 -- Assumes nothing.
-use Rattle.std.specs.Prelude.{◌≡◌, refl, Bool, true, List, [], ◌∷◌, ◌++◌, eqb, get_or}
-use Rattle.std.proofs.Math.Path.{sym, ap}
-use Rattle.std.proofs.Common.{◌∙◌, subst, div-add-mod', zero-add, length-append}
-use Prim.Native.Nat.{ℕ, zero, suc, ◌+◌, ◌*◌, ◌/◌, ◌%◌, ◌≤◌, ◌<◌}
-use native.Mathlib.Omega.{arith}
-use Rattle.std.proofs.Math.ListN.{length}
+use Rattle.std.proofs.Common.{◌≡◌, refl, Bool, true, List, [], ◌∷◌, ◌++◌, eqb, get_or, sym, ap, ◌∙◌, subst}
+use Rattle.std.proofs.Common.{div-add-mod', zero-add, length-append, ℕ, zero, suc, ◌+◌, ◌*◌, ◌/◌, ◌%◌, ◌≤◌, ◌<◌, arith}
+use Rattle.std.proofs.Common.{length, Ok, Err}
 use Rattle.theory.specs.Test.{Tested, holds, fails}
 use Rattle.theory.specs.Test.Laws.{is_true, says_true, eq_tested, lt_tested, both_tested}
 use Rattle.theory.specs.Join.{joined}
@@ -16,7 +13,8 @@ use Rattle.theory.specs.Join.Laws.{joined-zero, joined-suc}
 use Rattle.theory.specs.Match.{is_match}
 use Rattle.theory.specs.Bytes.{Bytes}
 use Rattle.shapes.specs.Questions.{Question}
-use Rattle.matching.specs.Compare.{pattern_of, positions, window_of, cell_count}
+use Rattle.matching.specs.Compare.{pattern_of, positions}
+use Rattle.view.specs.Places.{window_of, cell_count}
 use Rattle.listing.specs.Records.{bytes_of}
 use Rattle.reading.specs.Reader.{bytes_from}
 use Rattle.reading.specs.Reader.Reading.{size_closing, two_numbers}
@@ -25,7 +23,6 @@ use Rattle.listing.specs.Entries.Laws.{bytes_none, bytes_append}
 use Rattle.listing.specs.declared.records.Record.TheVariants.{Closing}
 use Rattle.claims.specs.Claims.{onward, byte_at, stands}
 use Rattle.claims.specs.Claims.{Walk}
-use Rattle.std.specs.Prelude.{Ok, Err}
 use Rattle.rules.specs.Check.{place_reached, place_in, entry_from, windows_to, stands_found, right_closing}
 use Rattle.rules.specs.Check.{closing_from}
 use Rattle.rules.specs.Rules.Bytes.{Holds, holds_none, holds_both, holds_first, holds_second, holds_byte}
@@ -62,7 +59,8 @@ closing_sound listing found refused at end bytes e =
     let t = says_true (closing_tested listing found refused at) g.0 in
     let same : bytes_of (Closing found refused) ≡ 5 ∷ bytes_from listing at 1 4 =
     ap (λ (b : List ℕ). 5 ∷ b)
-    (two_numbers (byte_at listing at 1) (byte_at listing at 2) (byte_at listing at 3) (byte_at listing at 4) found refused
+    (two_numbers (byte_at listing at 1) (byte_at listing at 2) (byte_at listing at 3) (byte_at listing at 4) found
+    refused
     (bytes (at + 2)) (bytes (at + 4)) (sym t.0) (sym t.1)) in (
       subst (Holds listing at) (sym same) (holds_stands listing at 5 4 size_closing f.0),
       says_true

@@ -9,7 +9,8 @@ use Rattle.refusals.specs.Said.{Said, ◌then◌, answer_said}
 use Rattle.shapes.specs.Questions.{Question, windows_of, shape_said}
 use Rattle.sets.specs.Symbols.{symbols_of}
 use Rattle.refusals.specs.declared.refusals.Refusal.TheVariants.{ListingForm, ListingFalse}
-use Rattle.matching.specs.Compare.{cell_of_pattern, window_of, cell_count}
+use Rattle.matching.specs.Compare.{cell_of_pattern}
+use Rattle.view.specs.Places.{window_of, cell_count}
 use Rattle.matching.specs.Windows.{window_place}
 use Rattle.cells.specs.declared.windows.WindowPlace.{WindowPlace}
 use Rattle.claims.specs.Claims.{or_stop, onward, stands, byte_at, true_mismatch_test, pairs_from}

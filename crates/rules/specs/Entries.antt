@@ -1,18 +1,15 @@
 -- The records of one window, and the closing, by what the reader answers: which way the walk goes, with the tests of
 -- the code in the place of the bytes.
 -- Assumes nothing.
-use Rattle.std.specs.Prelude.{◌≡◌, Bool, false, List, [], ◌∷◌, ℕ, ◌<◌, eqb, length, get_or, ◌⊎◌}
-use Rattle.std.proofs.Math.Path.{refl}
-use Rattle.std.proofs.Common.{sym, ap, arith, inl, inr}
-use Rattle.std.proofs.Math.Bool.{true}
-use Rattle.std.proofs.Math.Nat.{div-add-mod'}
-use borrow.Author.Tests.{eq-eqb, ne_eqb}
+use Rattle.std.proofs.Common.{◌≡◌, Bool, false, List, [], ◌∷◌, ℕ, ◌<◌, eqb, length, get_or, ◌⊎◌, refl, sym, ap, arith}
+use Rattle.std.proofs.Common.{inl, inr, true, div-add-mod', eq-eqb, ne_eqb, Ok, Err}
 use Rattle.theory.specs.Test.{both}
 use Rattle.theory.specs.Test.Laws.{true_or_false, eq_tested, tested_same, tested_iff, says_true}
 use Rattle.sets.specs.Symbols.{symbols_of}
 use Rattle.refusals.specs.declared.refusals.Refusal.{Refusal}
 use Rattle.refusals.specs.declared.refusals.Refusal.TheVariants.{ListingForm, ListingFalse}
-use Rattle.matching.specs.Compare.{cell_of_pattern, window_of, cell_count}
+use Rattle.matching.specs.Compare.{cell_of_pattern}
+use Rattle.view.specs.Places.{window_of, cell_count}
 use Rattle.cells.specs.declared.windows.WindowPlace.{WindowPlace}
 use Rattle.listing.specs.Records.{bytes_of}
 use Rattle.reading.specs.Reader.{read_said, cursor_said, bytes_from}
@@ -24,7 +21,6 @@ use Rattle.listing.specs.declared.records.Side.TheVariants.{Pattern, Window}
 use Rattle.listing.specs.declared.records.Record.{Record}
 use Rattle.listing.specs.declared.records.Record.TheVariants.{Found, Pair, Mismatch, Closing}
 use Rattle.reading.specs.declared.reader.Cursor.{Cursor}
-use Rattle.std.specs.Prelude.{Ok, Err}
 use Rattle.claims.specs.Claims.{or_stop, byte_at, stands, true_mismatch_test, pairs_from}
 use Rattle.claims.specs.Claims.{Walk}
 use Rattle.rules.specs.Check.{is_due, right_mismatch, right_closing, entry_from, closing_from}
@@ -35,7 +31,8 @@ use Rattle.claims.specs.Claims.Standing.{whole_next}
 -- ---- a mismatch
 
 module _ (v : WindowPlace) (body : MismatchBody) (listing : List ℕ) (at : ℕ) (read : MismatchAt body listing at) where
-  byte_is : (i : ℕ) → get_or (body.window.row ∷ body.window.column ∷ body.earlier.row ∷ body.earlier.column ∷ body.later.row ∷ body.later.column ∷ []) i 0
+  byte_is : (i : ℕ) → get_or (body.window.row ∷ body.window.column ∷ body.earlier.row ∷ body.earlier.column ∷
+      body.later.row ∷ body.later.column ∷ []) i 0
       ≡ get_or (bytes_from listing at 1 6) i 0
   byte_is i = ap (λ (l : List ℕ). get_or l i 0) read
 
@@ -46,7 +43,8 @@ module _ (v : WindowPlace) (body : MismatchBody) (listing : List ℕ) (at : ℕ)
 
   -- and its cells are the record's
   pub cells_of : (side : Bool) (m w : ℕ → ℕ)
-      → true_mismatch_test side m w v.height v.width (byte_at listing at 3) (byte_at listing at 4) (byte_at listing at 5)
+      → true_mismatch_test side m w v.height v.width (byte_at listing at 3) (byte_at listing at 4) (byte_at listing at
+      5)
       (byte_at listing at 6)
       ≡ true_mismatch_test side m w v.height v.width body.earlier.row body.earlier.column body.later.row
       body.later.column
@@ -84,7 +82,8 @@ pub mismatch_read : (alike : Side) (body : MismatchBody) (listing : List ℕ) (a
     → read_said (Ok (Mismatch alike body, next)) ≡ cursor_said listing at → MismatchAt body listing at
 mismatch_read alike body listing at next r = go alike r
   where
-    go : (alike : Side) → read_said (Ok (Mismatch alike body, next)) ≡ cursor_said listing at → MismatchAt body listing at
+    go : (alike : Side) → read_said (Ok (Mismatch alike body, next)) ≡ cursor_said listing at
+        → MismatchAt body listing at
     go Pattern r =
         let byte = whole_byte listing at (Mismatch Pattern body) next r in
         sym (six_are _ _ _ _ _ _ _ _ _ _ _ _ (byte 1 (omega arith)) (byte 2 (omega arith)) (byte 3 (omega arith))
@@ -164,7 +163,8 @@ module _ (text pattern : List ℕ) (v : WindowPlace) (listing : List ℕ) (at : 
     entry_not_due e = rw (whole_stands listing at (Found row column) next r 1 refl, found_due, e)
 
     pub found_entry_passes : both (eqb row v.row) (eqb column v.column) ≡ true → (c : Walk)
-        → c ≡ pairs_from (cell_of_pattern pattern) (window_of text v) (cell_count v) listing (symbols_of pattern) [] next.at
+        → c ≡ pairs_from (cell_of_pattern pattern) (window_of text v) (cell_count v) listing (symbols_of pattern) []
+        next.at
         → c ≡ entry_from text pattern v listing at
     unfolding entry_from
     found_entry_passes e c p =

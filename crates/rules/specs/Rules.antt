@@ -10,7 +10,8 @@ use Rattle.theory.specs.Count.{count}
 use Rattle.theory.specs.Match.{Maps, Mismatch, Answer, matched, mismatched, is_match}
 use Rattle.shapes.specs.Questions.{Question, Posed, windows_of}
 use Rattle.sets.specs.Symbols.{symbols_of}
-use Rattle.matching.specs.Compare.{pattern_of, window_of, cell_count}
+use Rattle.matching.specs.Compare.{pattern_of}
+use Rattle.view.specs.Places.{window_of, cell_count}
 use Rattle.cells.specs.declared.windows.WindowPlace.{WindowPlace}
 use Rattle.listing.specs.Entries.{bytes_all, entry_of}
 use Rattle.rules.specs.Check.{place_in}

@@ -6,7 +6,8 @@ use listing::records::Record;
 use reading::reader::Cursor;
 use refusals::refusals::Refusal;
 
-// The closing at a place, with these counts, and behind it the end.
+// The closing at a place, with these counts, and behind it the end. Refused by hand: of `Refusal::unless` is known what
+// is said, and the contract is of the refusal itself.
 pub fn check_closing(listing: &[u8], found: u16, refused: u16, at: usize) -> Result<usize, Refusal>
     ensures { result ≡ closing_from listing.now found refused at }
 {

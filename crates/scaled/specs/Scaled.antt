@@ -19,9 +19,7 @@ use Rattle.shapes.specs.Questions.{Grid, grid_of, Question, sides_of, sides_said
 use Rattle.shapes.specs.declared.shapes.Shape.{Shape}
 use Rattle.flags.specs.Flags.{Work, Rooms, rooms_of, work_after}
 use Rattle.entries.specs.Listing.{found_in, refused_in, needed_length, search_listing}
-use Rattle.searched.specs.Search.{Lent, Done, listed_of, stopped}
-use Rattle.scaled.specs.declared.answer.Summed.{Summed}
-use Rattle.scaled.specs.declared.answer.Summed.TheVariants.{Listed, Refused}
+use Rattle.searched.specs.Search.{Searched, searched_said, done, totalling, Lent, Done, listed_of, stopped}
 
 -- ---- the enlargement
 
@@ -131,10 +129,9 @@ every_of q l = stopped (every_room_said q (rooms_of l.work)) l (every_listed q l
 
 -- the papers' number and values of an answer: accepted, the three sums; of a refusal its number and what it returns
 -- besides
-abbrev pub summed_said : Summed → Said
-summed_said (Listed found refused size) = accepts (found ∷ refused ∷ size ∷ [])
-summed_said (Refused why) = refusal_said why
+abbrev pub summed_said : Searched → Said
+summed_said answer = searched_said answer
 
 -- an answer, with the buffers then
-abbrev pub summed : Summed → Lent → Done
-summed r l = record { said = summed_said r; lent = l }
+abbrev pub summed : Searched → Lent → Done
+summed r l = done r l

@@ -31,11 +31,10 @@ use Rattle.flags.specs.Flags.{Work, Rooms, rooms_of, count_at, window_flag}
 use Rattle.entries.specs.Listing.{found_in, refused_in, needed_length, search_listing}
 use Rattle.entries.specs.Listing.Totals.{found_refused}
 use Rattle.rooms.specs.Rooms.{room_said}
-use Rattle.searched.specs.Search.{Lent, Done, done, listed_said, listed_of, stopped, search_of, search_said}
+use Rattle.searched.specs.Search.{totalling, Lent, Done, done, listed_said, listed_of, stopped, search_of, search_said}
 use Rattle.searched.specs.Search.Accepted.{said_is}
 use Rattle.searched.specs.Search.Writes.{Writes, searched_writes, writes_bytes}
 use Rattle.searched.specs.Theorems.{search_zero}
-use Rattle.searched.specs.declared.answer.Searched.TheVariants.{Listed}
 use Rattle.scaled.specs.Scaled.{scaled, FitsAt, fits_test, scale_said, scaled_shape_said, scaled_room_said, scaled_of}
 use Rattle.scaled.specs.Scaled.{largest_of, every_room_said, sum_to, found_to, refused_to, length_to, works_to}
 use Rattle.scaled.specs.Scaled.{listings_to, every_said, every_listed, every_of, summed}
@@ -48,7 +47,6 @@ use Rattle.scaled.specs.Scaled.Listings.{front_written, listings_none, listings_
 use Rattle.scaled.specs.Scaled.Listings.{listings_length, listings_written}
 use Rattle.scaled.specs.Scaled.Outcome.{scaled_search, scaled_said, scaled_accepted, every_said_lem, EveryLists}
 use Rattle.scaled.specs.Scaled.Outcome.{every_lists, every_accepts, every_short, every_step}
-use Rattle.scaled.specs.declared.answer.Summed.TheVariants as Sums
 
 -- ---- which number is given
 
@@ -348,7 +346,7 @@ every_zero q l e =
 
 -- as many first bytes as the length says are the listing of the enlarged pattern
 pub scaled-part : (k : ℕ) (q : Question) (l after : Lent) (found refused size : ℕ) → Bytes q.pattern.cells
-    → done (Listed found refused size) after ≡ scaled_of k q l
+    → done (totalling found refused size) after ≡ scaled_of k q l
     → Writes (scaled k q) l.listing after.listing found refused size
     × (take size after.listing ≡ search_listing (scaled k q))
 scaled-part k q l after found refused size bytes is =
@@ -423,7 +421,7 @@ module _ (q : Question) (l : Lent) (bytes : Bytes q.pattern.cells) (room : Every
 -- ---- what the search at every k writes
 
 module _ (q : Question) (l after : Lent) (found refused size : ℕ)
-    (is : summed (Sums.Listed found refused size) after ≡ every_of q l) where
+    (is : summed (totalling found refused size) after ≡ every_of q l) where
   -- accepted: there was room, the values are the sums, and this is written
   pub every_listed_lem : EveryLists q l found refused size
   every_listed_lem = every_lists q l found refused size (ap (λ (d : Done). d.said) is)
@@ -451,7 +449,7 @@ module _ (q : Question) (l after : Lent) (found refused size : ℕ)
 
   -- which is what the search at k + 1 writes, wherever it is accepted
   pub every_is_each : Bytes q.pattern.cells → (k : ℕ) → k + 1 ≤ largest_of q
-      → (m then_after : Lent) (a b n : ℕ) → done (Listed a b n) then_after ≡ scaled_of (k + 1) q m
+      → (m then_after : Lent) (a b n : ℕ) → done (totalling a b n) then_after ≡ scaled_of (k + 1) q m
       → take n (drop (length_to q k) after.listing) ≡ take n then_after.listing
   every_is_each bytes k h m then_after a b n each =
       let w = scaled-part (k + 1) q m then_after a b n bytes each in

@@ -1,5 +1,2 @@
-// What the search at every scale answers. The meanings of the search at a given scale and at every scale stand in
-// specs/; no function is here.
+// No code: what the search at a given scale and the search at every scale say. Their meanings stand in specs/.
 #![tactic(auto)]
-
-pub mod answer;

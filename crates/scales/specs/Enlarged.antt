@@ -2,8 +2,8 @@
 -- the one is said of the other.
 -- Assumes nothing.
 use Rattle.std.specs.Prelude.{◌≡◌, List, ℕ, ◌*◌}
-use Rattle.std.proofs.Common.{ap, ap₂}
-use Rattle.shapes.specs.Questions.{Question, asked, four_sides}
+use Rattle.std.proofs.Common.{ap₂}
+use Rattle.shapes.specs.Questions.{asked, four_sides}
 use Rattle.shapes.specs.declared.shapes.Shape.{Shape}
 use Rattle.scaled.specs.Scaled.{enlarged_cells, scaled}
 

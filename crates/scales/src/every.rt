@@ -5,90 +5,59 @@ ghost use Rattle.std.specs.Prelude.{◌≡◌, ◌+◌, ◌≤◌, length};
 ghost use Rattle.theory.specs.Bytes.{Bytes};
 ghost use Rattle.theory.specs.Written.{written};
 ghost use Rattle.refusals.specs.Said.{over_front};
-ghost use Rattle.shapes.specs.Questions.{ask, asked};
+ghost use Rattle.shapes.specs.Questions.{question_in};
 ghost use Rattle.flags.specs.Flags.{RoomFor, rooms, working, work_after};
 ghost use Rattle.entries.specs.Listing.{needed_length, search_listing};
-ghost use Rattle.searched.specs.Search.{lend, searched_said};
-ghost use Rattle.scaled.specs.Scaled.{scaled, largest_of, found_to, refused_to, length_to, works_to, listings_to};
+ghost use Rattle.searched.specs.Search.{lend};
+ghost use Rattle.scaled.specs.Scaled.{scaled, largest_of, length_to, works_to, listings_to};
 ghost use Rattle.scaled.specs.Scaled.{every_listed, every_of, summed};
 ghost use Rattle.scaled.specs.Scaled.Fit.{PosedAt, EveryRoom};
-ghost use Rattle.scales.specs.Every.{size_said};
+ghost use Rattle.scales.specs.Every.{totals_to};
 
 use crate::enlarged::{count_enlarged, search_enlarged};
-use refusals::refusals::Outcome;
+use listing::totals::Totals;
+use refusals::refusals::Refusal;
 use rooms::rooms::listing_room_outcome;
-use scaled::answer::Summed;
 use scaling::fit::largest_scale;
 use scaling::room::every_room_outcome;
-use searched::answer::Searched;
-use shapes::shapes::Shape;
+use shapes::question::Question;
 
-// The windows found and refused at all scales together, and the length of all listings. One scale's counts have 16
-// bits; these do not.
-#[derive(Clone, Copy)]
-pub struct Sums {
-    pub found: usize,
-    pub refused: usize,
-    pub length: usize,
-}
-
-// Counts at every scale from 1 to the largest. Links, counts and flags are written afresh for each, from their start.
+// Counts at every scale from 1 to the largest, and adds up: one scale's counts have 16 bits, the sums do not. Links,
+// counts and flags are written afresh for each, from their start.
 fn count_scales(
-    text: &[u8],
-    pattern: &[u8],
-    s: Shape,
+    q: Question,
     largest: usize,
     links: &mut [u16],
     counts: &mut [u16],
     flags: &mut [u8],
-) -> Sums
-    requires { EveryRoom (asked text.now pattern.now s)
+) -> Totals<usize>
+    requires { EveryRoom (question_in q)
         (rooms (length links.old) (length counts.old) (length flags.old))
-        × (largest ≡ largest_of (asked text.now pattern.now s)) }
-    ensures flags_after { working links.new counts.new flags.new
-        ≡ works_to (asked text.now pattern.now s) largest
-        (working links.old counts.old flags.old) }
-    ensures found_value { (result.found ≡ found_to (asked text.now pattern.now s) largest)
-        × (result.refused ≡ refused_to (asked text.now pattern.now s) largest)
-        × (result.length ≡ length_to (asked text.now pattern.now s) largest) }
+        × (largest ≡ largest_of (question_in q)) }
+    ensures buffers { working links.new counts.new flags.new
+        ≡ works_to (question_in q.entry) largest (working links.old counts.old flags.old) }
+    ensures totals { result ≡ totals_to (question_in q.entry) largest }
 {
-    let mut found = 0;
-    let mut refused = 0;
-    let mut length = 0;
-    let mut k = 0;
-    while k < largest {
-        let totals = count_enlarged(text, pattern, s, k + 1, links, counts, flags);
-        found += totals.found as usize;
-        refused += totals.refused as usize;
-        length += totals.length;
-        k += 1;
+    let mut sums = Totals {
+        found: 0,
+        refused: 0,
+        length: 0,
+    };
+    // From 0, since k scales are counted before round k, and `1..=largest` would return from inside its last round.
+    for k in 0..largest {
+        let totals = count_enlarged(q, k + 1, links, counts, flags);
+        sums = Totals {
+            found: sums.found + usize::from(totals.found),
+            refused: sums.refused + usize::from(totals.refused),
+            length: sums.length + totals.length,
+        };
     }
-    Sums {
-        found,
-        refused,
-        length,
-    }
+    sums
 }
 
-// The length of the listing that a search wrote, 0 where it was refused.
-fn listed_length(answer: Searched) -> usize
-    ensures { result ≡ size_said (searched_said answer) }
-{
-    match answer {
-        Searched::Listed {
-            found: _,
-            refused: _,
-            length,
-        } => length,
-        Searched::Refused(_) => 0,
-    }
-}
-
-// The listing of one scale from place at on, and its length.
+// The listing of one scale from place at on, and its length. There is room for it, so that no search is refused.
 fn list_scale(
-    text: &[u8],
-    pattern: &[u8],
-    s: Shape,
+    q: Question,
     k: usize,
     links: &mut [u16],
     counts: &mut [u16],
@@ -96,112 +65,78 @@ fn list_scale(
     listing: &mut [u8],
     at: usize,
 ) -> usize
-    requires { PosedAt k (asked text.now pattern.now s)
-        × RoomFor (scaled k (asked text.now pattern.now s))
+    requires { PosedAt k (question_in q) × RoomFor (scaled k (question_in q))
         (rooms (length links.old) (length counts.old) (length flags.old))
-        × (at + needed_length (scaled k (asked text.now pattern.now s)) ≤ length listing.old) }
-    ensures flags_after { working links.new counts.new flags.new
-        ≡ work_after (scaled k (asked text.now pattern.now s))
-        (working links.old counts.old flags.old) }
-    ensures listing_after { listing.new ≡ written listing.old at
-        (search_listing (scaled k (asked text.now pattern.now s))) }
-    ensures value { result ≡ needed_length (scaled k (asked text.now pattern.now s)) }
+        × (at + needed_length (scaled k (question_in q)) ≤ length listing.old) }
+    ensures buffers { working links.new counts.new flags.new
+        ≡ work_after (scaled k (question_in q.entry)) (working links.old counts.old flags.old) }
+    ensures listing_after { listing.new ≡ written listing.old at (search_listing (scaled k (question_in q.entry))) }
+    ensures length { result ≡ needed_length (scaled k (question_in q.entry)) }
 {
     let rest = &mut listing[at..];
-    let answer = search_enlarged(text, pattern, s, k, links, counts, flags, rest);
-    listed_length(answer)
+    let Ok(totals) = search_enlarged(q, k, links, counts, flags, rest) else {
+        unreachable!()
+    };
+    totals.length
 }
 
 // The listings of all scales, one after the other, where there is room for them.
 fn list_scales(
-    text: &[u8],
-    pattern: &[u8],
-    s: Shape,
+    q: Question,
     largest: usize,
     links: &mut [u16],
     counts: &mut [u16],
     flags: &mut [u8],
     listing: &mut [u8],
 )
-    requires { EveryRoom (asked text.now pattern.now s)
+    requires { EveryRoom (question_in q)
         (rooms (length links.old) (length counts.old) (length flags.old))
-        × (largest ≡ largest_of (asked text.now pattern.now s))
-        × (length_to (asked text.now pattern.now s) largest ≤ length listing.old) }
-    ensures flags_after { working links.new counts.new flags.new
-        ≡ works_to (asked text.now pattern.now s) largest
-        (working links.old counts.old flags.old) }
-    ensures listing_after { listing.new ≡ over_front (listings_to (asked text.now pattern.now s) largest)
-        listing.old }
+        × (largest ≡ largest_of (question_in q))
+        × (length_to (question_in q) largest ≤ length listing.old) }
+    ensures buffers { working links.new counts.new flags.new
+        ≡ works_to (question_in q.entry) largest (working links.old counts.old flags.old) }
+    ensures listing_after { listing.new ≡ over_front (listings_to (question_in q.entry) largest) listing.old }
 {
     let mut at = 0;
-    let mut k = 0;
-    while k < largest {
-        at += list_scale(text, pattern, s, k + 1, links, counts, flags, listing, at);
-        k += 1;
+    for k in 0..largest {
+        at += list_scale(q, k + 1, links, counts, flags, listing, at);
     }
 }
 
 // The search at every scale where nothing but the listing's room is left to ask: 11 by the length of all listings.
 fn search_every(
-    text: &[u8],
-    pattern: &[u8],
-    s: Shape,
+    q: Question,
     links: &mut [u16],
     counts: &mut [u16],
     flags: &mut [u8],
     listing: &mut [u8],
-) -> Summed
-    requires { EveryRoom (asked text.now pattern.now s)
+) -> Result<Totals<usize>, Refusal>
+    requires { EveryRoom (question_in q)
         (rooms (length links.old) (length counts.old) (length flags.old)) }
     ensures { summed result (lend links.new counts.new flags.new listing.new)
-        ≡ every_listed (asked text.now pattern.now s)
-        (lend links.old counts.old flags.old listing.old) }
+        ≡ every_listed (question_in q.entry) (lend links.old counts.old flags.old listing.old) }
 {
-    let largest = largest_scale(s);
-    let sums = count_scales(text, pattern, s, largest, links, counts, flags);
-    let outcome = listing_room_outcome(listing.len(), sums.length);
-    match outcome {
-        Outcome::Refused(why) => Summed::Refused(why),
-        Outcome::Accepted => {
-            list_scales(text, pattern, s, largest, links, counts, flags, listing);
-            Summed::Listed {
-                found: sums.found,
-                refused: sums.refused,
-                length: sums.length,
-            }
-        }
-    }
+    let largest = largest_scale(q.shape);
+    let sums = count_scales(q, largest, links, counts, flags);
+    listing_room_outcome(listing.len(), sums.length)?;
+    list_scales(q, largest, links, counts, flags, listing);
+    Ok(sums)
 }
 
 // Searches a text for a pattern at every scale that fits. Refused by 2 and 3, by 17 where not even scale 1 fits, by 9
 // where the links are too few for the largest scale, by 10 where there is no room for the windows of scale 1, and by 11
 // once the length of all listings is known.
 pub fn search_scales(
-    text: &[u8],
-    rows: usize,
-    columns: usize,
-    pattern: &[u8],
-    height: usize,
-    width: usize,
+    q: Question,
     links: &mut [u16],
     counts: &mut [u16],
     flags: &mut [u8],
     listing: &mut [u8],
-) -> Summed
-    ensures listing_after { summed result (lend links.new counts.new flags.new listing.new)
-        ≡ every_of (ask text.now rows columns pattern.now height width)
-        (lend links.old counts.old flags.old listing.old) }
-    ensures bytes { Bytes text.now × Bytes pattern.now }
+) -> Result<Totals<usize>, Refusal>
+    ensures answer { summed result (lend links.new counts.new flags.new listing.new)
+        ≡ every_of (question_in q.entry) (lend links.old counts.old flags.old listing.old) }
+    ensures bytes { Bytes q.entry.text.now × Bytes q.entry.pattern.now }
 {
-    let s = Shape {
-        rows,
-        columns,
-        height,
-        width,
-    };
-    let outcome = every_room_outcome(text, pattern, s, links.len(), counts.len(), flags.len());
-    match outcome {
-        Outcome::Refused(why) => Summed::Refused(why),
-        Outcome::Accepted => search_every(text, pattern, s, links, counts, flags, listing),
-    }
+    every_room_outcome(q, links.len(), counts.len(), flags.len())?;
+    search_every(q, links, counts, flags, listing)
 }

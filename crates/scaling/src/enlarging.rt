@@ -1,12 +1,13 @@
 // The numbers by which an enlargement is read off its pattern (crates/placed), found once for a search: there a
 // position is divided by a product with an inverse.
-ghost use Rattle.std.specs.Prelude.{◌≡◌, List, ℕ, ◌*◌, ◌≤◌, length};
+ghost use Rattle.std.specs.Prelude.{◌≡◌, ◌*◌, ◌≤◌, length};
 ghost use Rattle.shapes.specs.Shapes.{Sides};
-ghost use Rattle.placed.specs.Placing.{placed, inverse};
+ghost use Rattle.placed.specs.Placing.{inverse};
 ghost use Rattle.scaled.specs.Scaled.{FitsAt, enlarged_cells};
 
-use placed::placing::Placing;
-use shapes::shapes::Shape;
+use placed::enlarged::Enlarged;
+use placed::pattern::Pattern;
+use shapes::question::Question;
 
 // What a position is multiplied by where it is divided by d.
 fn inverse_of(d: usize) -> usize
@@ -16,24 +17,23 @@ fn inverse_of(d: usize) -> usize
     4294967296 / d + 1
 }
 
-// How a pattern of those sides lies, enlarged k times.
-pub fn enlarging(s: Shape, k: usize) -> Placing
-    requires { Sides s.rows s.columns s.height s.width × FitsAt k s }
-    ensures { (pattern : List ℕ) → length pattern ≡ s.height * s.width
-        → placed pattern result ≡ enlarged_cells k pattern s.height s.width }
+// The pattern that is asked about, enlarged k times.
+pub fn enlarging<'a>(q: Question<'a>, k: usize) -> Enlarged<'a>
+    requires { Sides q.shape.rows q.shape.columns q.shape.height q.shape.width × FitsAt k q.shape
+        × (length q.pattern.now ≡ q.shape.height * q.shape.width) }
+    ensures { let s = q.entry.shape in
+        ⟦<Enlarged<'a> as Pattern>⟧.cells result ≡ enlarged_cells k q.entry.pattern.now s.height s.width }
 {
+    let s = q.shape;
     let width = k * s.width;
-    let cells = k * s.height * width;
-    let by_scale = inverse_of(k);
-    let by_width = inverse_of(width);
-    let by_block = inverse_of(width * k);
-    Placing {
+    Enlarged {
+        own: q.pattern,
         scale: k,
         height: s.height,
         width: s.width,
-        cells: cells,
-        by_scale: by_scale,
-        by_width: by_width,
-        by_block: by_block,
+        cells: k * s.height * width,
+        by_scale: inverse_of(k),
+        by_width: inverse_of(width),
+        by_block: inverse_of(width * k),
     }
 }

@@ -6,53 +6,38 @@ ghost use Rattle.shapes.specs.Shapes.{Sides};
 ghost use Rattle.shapes.specs.Questions.{four_sides};
 ghost use Rattle.scaled.specs.Scaled.{FitsAt, fits_test, scale_said, largest_scale_of};
 
-use refusals::refusals::{Outcome, Reason, Refusal};
+use refusals::refusals::{Reason, Refusal};
 use shapes::shapes::Shape;
 
 // A side enlarged k times is no longer than the whole. A side of 0 stays 0, and there is nothing to divide by.
 fn side_fits(whole: usize, part: usize, k: usize) -> bool
     ensures { result ≡ leb (k * part) whole }
 {
-    if part == 0 {
-        return true;
-    }
-    k <= whole / part
+    part == 0 || k <= whole / part
 }
 
 // The scale is not 0, and the enlarged pattern is neither taller nor wider than the text.
+#[tactic(auto, unfolding(scaled::specs::Scaled::fits_test))]
 pub fn fits_at(s: Shape, k: usize) -> bool
     ensures { result ≡ fits_test k s }
 {
-    if k < 1 {
-        return false;
-    }
-    if !side_fits(s.rows, s.height, k) {
-        return false;
-    }
-    side_fits(s.columns, s.width, k)
+    1 <= k && side_fits(s.rows, s.height, k) && side_fits(s.columns, s.width, k)
 }
 
 // 17: it does not fit.
-pub fn scale_outcome(s: Shape, k: usize) -> Outcome
+#[tactic(auto, unfolding(scaled::specs::Scaled::scale_said))]
+pub fn scale_outcome(s: Shape, k: usize) -> Result<(), Refusal>
     ensures { outcome_said result ≡ scale_said k s }
 {
-    if !fits_at(s, k) {
-        return Outcome::Refused(Refusal::Plain(Reason::ScaleUnfit));
-    }
-    Outcome::Accepted
+    Reason::ScaleUnfit.unless(fits_at(s, k))
 }
 
-// The largest scale that fits, 0 where none does.
+// The largest scale that fits, 0 where none does: no Option, since document 02 counts from 1 up to it.
 pub fn largest_scale(s: Shape) -> usize
     requires { Sides s.rows s.columns s.height s.width }
     ensures { result ≡ largest_scale_of s }
 {
-    let down = s.rows / s.height;
-    let along = s.columns / s.width;
-    if along < down {
-        return along;
-    }
-    down
+    (s.rows / s.height).min(s.columns / s.width)
 }
 
 // The sides of the text, and those of the pattern enlarged: no longer than the text's, so the products are small.

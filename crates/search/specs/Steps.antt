@@ -2,8 +2,8 @@
 -- and what the second says and leaves in the listing.
 -- Assumes nothing.
 use Rattle.std.specs.Prelude.{◌≡◌, List, ℕ, length}
-use Rattle.std.proofs.Common.{ap, arith}
-use Rattle.refusals.specs.Said.{Filled, filled_by}
+use Rattle.std.proofs.Common.{arith}
+use Rattle.refusals.specs.Said.{filled_by}
 use Rattle.refusals.specs.Said.Laws.{same_said, same_buffer}
 use Rattle.shapes.specs.Questions.{Question, asked}
 use Rattle.shapes.specs.declared.shapes.Shape.{Shape}
@@ -11,8 +11,7 @@ use Rattle.flags.specs.Flags.{Work, RoomFor, rooms_of, work_after}
 use Rattle.flags.specs.Flags.Laws.{flags_after_long, flags_after_true}
 use Rattle.passes.specs.Windows.{Flagged}
 use Rattle.entries.specs.Listing.{search_listing}
-use Rattle.searched.specs.Search.{Lent, done, listed_said, listed_of, list_done}
-use Rattle.searched.specs.declared.answer.Searched.{Searched}
+use Rattle.searched.specs.Search.{Searched, Lent, done, listed_said, listed_of, list_done}
 
 -- the flags that the first leaves are the flags of all windows
 pub flagged_after : (text pattern : List ℕ) (s : Shape) (w after : Work)

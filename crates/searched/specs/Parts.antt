@@ -4,7 +4,7 @@
 -- never gives 16 (`search_never_16`), and who calls Count and then List has what the search answers and leaves
 -- (`called_in_turn`, `counting_refused`). Then what a reader may ask of the two by themselves.
 -- Assumes nothing.
-use Rattle.std.specs.Prelude.{◌≡◌, true, List, [], ◌∷◌, ◌⊎◌, ℕ, ◌+◌, ◌*◌, ◌≤◌, ◌<◌, leb, length, get_or}
+use Rattle.std.specs.Prelude.{Err, ◌≡◌, true, List, [], ◌∷◌, ◌⊎◌, ℕ, ◌+◌, ◌*◌, ◌≤◌, ◌<◌, leb, length, get_or}
 use Rattle.std.proofs.Math.Path.{refl}
 use Rattle.std.proofs.Common.{sym, ◌∙◌, inl, inr, ⊎_elim, arith}
 use Rattle.theory.specs.Test.{both}
@@ -21,12 +21,10 @@ use Rattle.entries.specs.Listing.{found_in, refused_in, needed_length}
 use Rattle.flags.specs.Flags.Laws.{flag_one, flag_is_bit, flags_true_tested, flags_after_long, flags_after_true}
 use Rattle.rooms.specs.Rooms.{room_said, flags_room_said}
 use Rattle.rooms.specs.Rooms.Laws.{room_passed, room_passes, flags_room_passes}
-use Rattle.searched.specs.Search.{Lent, done, listed_said, listed_of, search_of, search_said}
+use Rattle.searched.specs.Search.{totalling, Searched, Lent, done, listed_said, listed_of, search_of, search_said}
 use Rattle.searched.specs.Search.{count_said, count_done, count_of, list_said, list_done, list_of, count_then_list}
 use Rattle.searched.specs.Search.Accepted.{said_is}
 use Rattle.searched.specs.Search.Writes.{list_passed}
-use Rattle.searched.specs.declared.answer.Searched.{Searched}
-use Rattle.searched.specs.declared.answer.Searched.TheVariants.{Listed, Refused}
 
 -- where Count accepts, the flags that it leaves are the truth
 module _ (q : Question) (w : Work) (room : RoomFor q (rooms_of w)) where
@@ -56,14 +54,14 @@ search_parts q l = go (room_said q (rooms_of l.work)) refl
 
 -- who calls Count and then, where it accepts, List with the flags that it left, has what the search answers and leaves
 pub called_in_turn : (q : Question) (l : Lent) (first second : Searched) (work : Work) (listing : List ℕ)
-    (found refused size : ℕ) → first ≡ Listed found refused size → count_done first work ≡ count_of q l.work
+    (found refused size : ℕ) → first ≡ totalling found refused size → count_done first work ≡ count_of q l.work
     → list_done second listing ≡ list_of q work.flags l.listing
     → done second (record { work = work; listing = listing }) ≡ search_of q l
 unfolding count_then_list
 called_in_turn q l first second work listing found refused size e c d = sym (search_parts q l ∙ rw (← c, e, ← d))
 
 -- and where Count refuses, that is the search's answer
-pub counting_refused : (q : Question) (l : Lent) (first : Searched) (work : Work) (why : Refusal) → first ≡ Refused why
+pub counting_refused : (q : Question) (l : Lent) (first : Searched) (work : Work) (why : Refusal) → first ≡ Err why
     → count_done first work ≡ count_of q l.work
     → done first (record { work = work; listing = l.listing }) ≡ search_of q l
 unfolding count_then_list

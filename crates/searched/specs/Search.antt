@@ -5,15 +5,15 @@
 pub mod Accepted
 pub mod Outcome
 pub mod Writes
-use Rattle.std.specs.Prelude.{List, [], ◌∷◌, ℕ, leb, length}
-use Rattle.refusals.specs.Said.{Said, accepts, refuses, ◌then◌, check, check_with, new_by, buffer_by, refusal_said}
+use Rattle.std.specs.Prelude.{List, [], ◌∷◌, ℕ, leb, length, Result, Ok}
+use Rattle.refusals.specs.Said.{Said, accepts, refuses, ◌then◌, check, check_with, new_by, buffer_by, answer_said}
 use Rattle.refusals.specs.Said.{Filled, filled_by}
 use Rattle.shapes.specs.Questions.{Question}
 use Rattle.flags.specs.Flags.{Work, working, Rooms, rooms_of, work_after, flags_truth}
 use Rattle.entries.specs.Listing.{found_in, refused_in, needed_length, search_listing}
 use Rattle.rooms.specs.Rooms.{room_said, flags_room_said}
-use Rattle.searched.specs.declared.answer.Searched.{Searched}
-use Rattle.searched.specs.declared.answer.Searched.TheVariants.{Listed, Refused}
+use Rattle.refusals.specs.declared.refusals.Refusal.{Refusal}
+use Rattle.listing.specs.declared.totals.Totals.{Totals}
 
 -- the buffers that a search is lent
 pub record Lent : Type 0 where
@@ -29,11 +29,19 @@ pub record Done : Type 0 where
   pub said : Said
   pub lent : Lent
 
+-- what the search answers, and Count and List: the windows found and refused, and the length of the listing; or a
+-- refusal
+abbrev pub Searched : Type 0
+Searched = Result (Totals ℕ) Refusal
+
+-- an accepted answer by its numbers
+abbrev pub totalling : ℕ → ℕ → ℕ → Searched
+totalling found refused size = Ok (record { found = found; refused = refused; length = size })
+
 -- the papers' number and values of an answer: accepted, found, refused and the length; of a refusal its number and
 -- what it returns besides
 abbrev pub searched_said : Searched → Said
-searched_said (Listed found refused size) = accepts (found ∷ refused ∷ size ∷ [])
-searched_said (Refused why) = refusal_said why
+searched_said answer = answer_said (λ (t : Totals ℕ). t.found ∷ t.refused ∷ t.length ∷ []) answer
 
 -- an answer, with the buffers then
 abbrev pub done : Searched → Lent → Done

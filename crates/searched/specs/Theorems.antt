@@ -26,8 +26,9 @@ use Rattle.counts.specs.Counts.{counts_of}
 use Rattle.counts.specs.Counts.Laws.{counts_accepted, counts_after}
 use Rattle.matching.specs.Compare.{pattern_of, window_in, positions, MatchesAt, verdict_of, bijection_of, told, one_window_of}
 use Rattle.answering.specs.Accepted.{Askable}
-use Rattle.answering.specs.Theorems.{verdict_right, bijection_right}
-use Rattle.matching.specs.declared.compare.WindowAnswer.{WindowAnswer}
+use Rattle.answering.specs.Theorems.{verdict_right}
+use Rattle.matching.specs.declared.compare.Verdict.{Verdict}
+use Rattle.refusals.specs.declared.refusals.Refusal.{Refusal}
 use Rattle.listing.specs.Records.{bytes_of}
 use Rattle.reading.specs.Reader.{read_said, cursor_said}
 use Rattle.reading.specs.Reader.RoundTrip.{records_read}
@@ -35,7 +36,7 @@ use Rattle.listing.specs.Entries.{bytes_all, pairs_of, mismatch_body_at, mismatc
 use Rattle.listing.specs.Entries.Laws.{pairs_ext, right_pairs, entry_found, entry_refused}
 use Rattle.listing.specs.declared.records.Record.{Record}
 use Rattle.listing.specs.declared.records.Record.TheVariants.{Found}
-use Rattle.std.specs.Prelude.{Ok, Err}
+use Rattle.std.specs.Prelude.{Result, Ok}
 use Rattle.flags.specs.Flags.{Work, RoomFor, rooms_of, window_flag, count_at, work_after, Rooms}
 use Rattle.flags.specs.Flags.Laws.{flag_one}
 use Rattle.entries.specs.Listing.{verdict_records, entry_of_window, found_in, refused_in, search_records, search_listing}
@@ -137,13 +138,12 @@ module _ (o : Question) (row column : ℕ) (corner : column < across_of o) where
       go matched e d = (match_iff m w n).0 e
       go {pairs} (mismatched side q p) e d = absurd (differ side q p pairs (sym (entry_mismatched side q p e) ∙ d))
 
-  -- the window's records list its one-window answer
-  pub lists_answer : (r : WindowAnswer) → told r ≡ one_window_of o row column → Askable o row column
-      → entry ≡ verdict_records row column o.pattern.columns (symbols_of o.pattern.cells) r.bijection.forward
-      r.verdict
+  -- the one-window question is answered, and the window's records list the verdict
+  pub lists_answer : (r : Result Verdict Refusal) → told r ≡ one_window_of o row column → Askable o row column
+      → (v : Verdict) × (r ≡ Ok v)
+      × (entry ≡ verdict_records row column o.pattern.columns (symbols_of o.pattern.cells) v)
   lists_answer r answers accepted =
-      go (answer_of m w n) refl (verdict_right o row column r answers accepted)
-      (bijection_right o row column r answers accepted)
+      (verdict_of m w n (answer_of m w n), verdict_right o row column r answers accepted, go (answer_of m w n) refl)
     where
       image_of_lem : (i : ℕ) → i < length (symbols_of o.pattern.cells)
           → image_of m w n (get_or (symbols_of o.pattern.cells) i 0)
@@ -152,17 +152,16 @@ module _ (o : Question) (row column : ℕ) (corner : column < across_of o) where
           forward_image m w n (get_or (symbols_of o.pattern.cells) i 0)
           (members_pass (contains o.pattern.cells) 256 i l).0
 
-      go : (a : Answer) → answer_of m w n ≡ a → r.verdict ≡ verdict_of (answer_of m w n)
-          → r.bijection ≡ bijection_of m w n (answer_of m w n)
+      go : (a : Answer) → answer_of m w n ≡ a
           → entry ≡ verdict_records row column o.pattern.columns (symbols_of o.pattern.cells)
-          r.bijection.forward r.verdict
-      go matched e v b =
+          (verdict_of m w n (answer_of m w n))
+      go matched e =
           entry_matched e
           ∙ ap (λ (rs : List Record). Found row column ∷ rs)
           (pairs_ext (image_of m w n) (λ a. get_or (bijection_of m w n matched).forward a 0)
           (symbols_of o.pattern.cells) image_of_lem)
-          ∙ rw (v, b, e)
-      go (mismatched side q p) e v b = entry_mismatched side q p e ∙ rw (v, e)
+          ∙ rw e
+      go (mismatched side q p) e = entry_mismatched side q p e ∙ rw e
 
 -- ---- the whole search
 

@@ -1,5 +1,3 @@
-// What the search answers, and Count and List, which are its two parts. Their meanings stand in specs/, beside each
-// other; no function is here.
+// No code: what the search says, and Count and List, which are its two parts. Their meanings stand in specs/, beside
+// each other.
 #![tactic(auto)]
-
-pub mod answer;

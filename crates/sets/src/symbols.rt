@@ -59,7 +59,8 @@ impl Symbols {
         n
     }
 
-    // The lowest symbol in the set, if it has one.
+    // The lowest symbol in the set, if it has one. It is a byte, by `as`: `try_from` would have a way out that no value
+    // takes.
     pub fn lowest(self) -> Option<u8>
         ensures { symbol_number result ≡ lowest_of self }
     {
@@ -74,7 +75,7 @@ impl Symbols {
 
 // The symbols of a set, rising, at the front of a list, and how many they are: for a walk that is made many times over.
 pub fn list_symbols(symbols: Symbols, listed: &mut [u8; 256]) -> usize
-    ensures value { result ≡ length (members (has symbols) 256) }
+    ensures count { result ≡ length (members (has symbols) 256) }
     ensures listed_after { listed.new ≡ over_front (members (has symbols) 256) listed.old }
 {
     let mut rest = symbols;

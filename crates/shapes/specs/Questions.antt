@@ -3,6 +3,7 @@
 pub mod Laws
 use Rattle.std.specs.Prelude.{◌≡◌, List, Bool, ℕ, ◌*◌, length}
 use Rattle.shapes.specs.declared.shapes.Shape.{Shape}
+use Rattle.shapes.specs.declared.question.Question.{Question as Asking}
 use Rattle.shapes.specs.Shapes.{good_sides_test, good_cells_test, fits, windows, corners, Shaped}
 use Rattle.refusals.specs.Said.{Said, ◌then◌, check}
 
@@ -33,6 +34,10 @@ four_sides rows columns height width = record { rows = rows; columns = columns; 
 -- a question from its sides as one value
 abbrev pub asked : List ℕ → List ℕ → Shape → Question
 asked text pattern s = ask text s.rows s.columns pattern s.height s.width
+
+-- the question that the code hands on as one value
+abbrev pub question_in : Asking → Question
+question_in q = asked q.text.now q.pattern.now q.shape
 
 -- and its sides
 abbrev pub sides_of : Question → Shape

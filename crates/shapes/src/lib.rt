@@ -2,5 +2,6 @@
 // What stands above relies on the contracts here and on the laws of specs/, never on how a function does it.
 #![tactic(auto)]
 
+pub mod question;
 pub mod shapes;
 pub mod tables;

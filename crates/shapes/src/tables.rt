@@ -8,24 +8,3 @@ pub fn table<T: Copy, const N: usize>(x: T) -> [T; N]
 {
     [x; N]
 }
-
-// A list before any symbol is in it.
-pub fn no_symbols() -> [u8; 256]
-    ensures { result ≡ replicate 256 0 }
-{
-    [0u8; 256]
-}
-
-// No places yet.
-pub fn no_places() -> [u16; 256]
-    ensures { result ≡ replicate 256 0 }
-{
-    [0u16; 256]
-}
-
-// A column without entries.
-pub fn no_entries() -> [u32; 256]
-    ensures { result ≡ replicate 256 0 }
-{
-    [0u32; 256]
-}

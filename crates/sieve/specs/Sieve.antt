@@ -2,13 +2,14 @@
 -- one that two cells spoil. They need not be right the other way: a window that passes is compared.
 -- Assumes nothing.
 pub mod Laws
-use Rattle.std.specs.Prelude.{◌≡◌, List, ℕ, ◌*◌, ◌<◌, eqb, length, get_or}
+use Rattle.std.specs.Prelude.{◌≡◌, true, List, ℕ, ◌*◌, ◌<◌, eqb, length, get_or}
 use Rattle.theory.specs.Match.{first_end}
 use Rattle.shapes.specs.Shapes.{ShapeOf, across}
 use Rattle.cells.specs.Windows.{strip_at, offset_of}
 use Rattle.shapes.specs.declared.shapes.Shape.{Shape}
 use Rattle.prefixes.specs.Prefixes.{suffix}
-use Rattle.alike.specs.Pairs.{AlikePairs}
+use Rattle.alike.specs.Pairs.{AlikePairs, no_pair}
+use Rattle.alike.specs.declared.pairs.Pair.{Pair}
 use Rattle.sieve.specs.declared.spoilers.Spoiler.{Spoiler}
 
 -- What the inner functions' contracts cite.
@@ -26,9 +27,13 @@ pub record StripAsked (text pattern : List ℕ) (s : Shape) (left : ℕ) : Type 
   pub beside : left < across s
 
 -- and that by pairs
-pub record PairsAsked (text pattern earlier later : List ℕ) (s : Shape) (left : ℕ) : Type 0 where
+pub record PairsAsked (text pattern : List ℕ) (pairs : List Pair) (s : Shape) (left : ℕ) : Type 0 where
   pub strip : StripAsked text pattern s left
-  pub pairs : AlikePairs pattern s.columns s.width earlier later
+  pub alike : AlikePairs pattern s.columns s.width pairs
+
+-- the corner with itself
+abbrev pub no_spoiler : Spoiler
+no_spoiler = record { cells = no_pair; alike = true }
 
 -- two cells of the pattern by their offsets, and whether they are alike in it
 pub record SpoilerOf (pattern : List ℕ) (columns width : ℕ) (x : Spoiler) : Type 0 where
@@ -36,6 +41,6 @@ pub record SpoilerOf (pattern : List ℕ) (columns width : ℕ) (x : Spoiler) : 
   pub q : ℕ
   pub p_in : p < length pattern
   pub q_in : q < length pattern
-  pub earlier_is : x.earlier ≡ offset_of columns width p
-  pub later_is : x.later ≡ offset_of columns width q
+  pub earlier_is : x.cells.earlier ≡ offset_of columns width p
+  pub later_is : x.cells.later ≡ offset_of columns width q
   pub alike_is : x.alike ≡ eqb (get_or pattern p 0) (get_or pattern q 0)

@@ -2,29 +2,27 @@
 ghost use Rattle.std.specs.Prelude.{◌≡◌, false, ◌<◌};
 ghost use Rattle.shapes.specs.Shapes.{down};
 ghost use Rattle.sieve.specs.Sieve.{Differs, PairsAsked};
-ghost use Rattle.placed.specs.Placing.{placed};
 
-use alike::pairs::pairs_alike;
-use placed::placing::Placing;
+use alike::pairs::{Pair, pairs_alike};
+use placed::pattern::Pattern;
 use shapes::shapes::Shape;
 
-// False only where the window at row top does not match: a pair of the pattern's is not alike in it.
-pub fn pairs_pass(
+// False only where the window at row top does not match: a pair of the pattern's is not alike in it. The pattern itself
+// is not read: it stands here for the contract.
+pub fn pairs_pass<P: Pattern>(
     text: &[u8],
-    pattern: &[u8],
-    g: Placing,
-    earlier: &[usize; 8],
-    later: &[usize; 8],
+    pattern: P,
+    pairs: &[Pair; 8],
     s: Shape,
     left: usize,
     top: usize,
 ) -> bool
-    requires { PairsAsked text.now (placed pattern.now g) earlier.now later.now s left × (top < down s) }
-    ensures { result ≡ false → Differs text.now (placed pattern.now g) s left top }
+    requires { PairsAsked text.now (P.cells pattern) pairs.now s left × (top < down s) }
+    ensures { result ≡ false → Differs text.now (P.cells pattern) s left top }
 {
     let corner = top * s.columns + left;
-    if !pairs_alike(text, corner, earlier, later, 0) {
+    if !pairs_alike(text, corner, pairs, 0) {
         return false;
     }
-    pairs_alike(text, corner, earlier, later, 4)
+    pairs_alike(text, corner, pairs, 4)
 }

@@ -12,15 +12,15 @@
 -- Assumes nothing.
 pub mod Steps
 pub mod Own
-pub mod OwnParts
 pub mod Runs
-use Rattle.std.specs.Prelude.{◌≡◌, List, ℕ, ◌+◌, ◌-◌, ◌*◌, ◌≤◌, ◌<◌, length, get_or, ltb}
+use Rattle.std.specs.Prelude.{◌≡◌, List, ℕ, ◌+◌, ◌-◌, ◌*◌, ◌≤◌, ◌<◌, length, get_or}
 use Rattle.grid.specs.Strips.{StripOf, strip_symbols, strip_from}
 use Rattle.grid.specs.declared.strips.Strip.{Strip}
 use Rattle.prefixes.specs.Prefixes.{suffix, EndIs, first_earlier}
 use Rattle.prefixes.specs.State.{FirstPlaces, Swept}
+use Rattle.rows.specs.declared.run.Run.{Run}
+use Rattle.rows.specs.declared.run.FirstEnd.{FirstEnd}
 use Rattle.sweep.specs.declared.steps.Step.{Step}
-use Rattle.theory.specs.Test.{pick}
 use Rattle.theory.specs.Match.{first_end}
 use Rattle.shapes.specs.Shapes.{ShapeOf, across, down}
 use Rattle.cells.specs.Windows.{window_at, corner_row, corner_column}
@@ -40,13 +40,13 @@ earlier_of text s pattern k =
 
 -- What the inner functions' contracts cite.
 
--- a run stands at the window at row top: the last window compared begins at row, at or above it, and agrees up to place
--- reached
-pub record RunAt (text : List ℕ) (s : Strip) (pattern last : List ℕ) (row reached top height : ℕ) : Type 0 where
-  pub past : row ≤ top
-  pub fits : reached ≤ row * s.width + length pattern
-  pub within : reached ≤ (top + height) * s.width
-  pub swept : Swept (λ k. get_or pattern k 0) (strip_symbols text s) (row * s.width) reached last
+-- a run stands at the window at row top: the last window compared begins at its row, at or above top, and agrees up to
+-- the place reached
+pub record RunAt (text : List ℕ) (s : Strip) (pattern last : List ℕ) (run : Run) (top height : ℕ) : Type 0 where
+  pub past : run.row ≤ top
+  pub fits : run.reached ≤ run.row * s.width + length pattern
+  pub within : run.reached ≤ (top + height) * s.width
+  pub swept : Swept (λ k. get_or pattern k 0) (strip_symbols text s) (run.row * s.width) run.reached last
 
 -- what the pattern's own window d places down says, in the first cells positions of the pattern
 abbrev pub OwnEndIs : List ℕ → ℕ → ℕ → ℕ → ℕ → Type 0
@@ -59,24 +59,27 @@ pub record OwnKnown (pattern : List ℕ) (agreed d end earlier : ℕ) : Type 0 w
   pub enough : agreed ≤ cells
   pub own_end : OwnEndIs pattern cells d end earlier
 
+-- a table's entry for the window k rows down
+abbrev pub own_at : List FirstEnd → ℕ → FirstEnd
+own_at own k = get_or own k (record { end = 0; earlier = 0 })
+
 -- what is asked of the next window
-pub record NextAt (text : List ℕ) (s : Strip) (pattern first last selves earlies : List ℕ)
-    (row reached top height : ℕ) : Type 0 where
+pub record NextAt (text : List ℕ) (s : Strip) (pattern first last : List ℕ) (own : List FirstEnd) (run : Run)
+    (top height : ℕ) : Type 0 where
   pub strip : StripOf s (length text)
   pub down : top + height ≤ s.rows
   pub cells : height * s.width ≤ length pattern
   pub places : FirstPlaces (λ k. get_or pattern k 0) (length pattern) first
-  pub run : RunAt text s pattern last row reached top height
-  pub selves_long : length selves ≡ 256
-  pub earlies_long : length earlies ≡ 256
-  pub self : top * s.width < reached → OwnKnown pattern (reached - row * s.width) ((top - row) * s.width)
-      (get_or selves (top - row) 0) (get_or earlies (top - row) 0)
+  pub at_run : RunAt text s pattern last run top height
+  pub self : top * s.width < run.reached
+      → OwnKnown pattern (run.reached - run.row * s.width) ((top - run.row) * s.width) (own_at own (top - run.row)).end
+      (own_at own (top - run.row)).earlier
 
 -- its first end, and where the run stands then
 pub record NextIs (text : List ℕ) (s : Strip) (pattern : List ℕ) (row top height : ℕ) (r : Step) (last : List ℕ)
     : Type 0 where
-  pub since : row ≤ r.row
-  pub run : RunAt text s pattern last r.row r.reached top height
+  pub since : row ≤ r.run.row
+  pub at_run : RunAt text s pattern last r.run top height
   pub end : EndIs (λ k. get_or pattern k 0) (suffix (strip_symbols text s) (top * s.width)) (height * s.width) r.end
       r.earlier
 
@@ -94,49 +97,32 @@ pub record SidesOf (pattern : List ℕ) (height width : ℕ) : Type 0 where
 
 -- the first ends and earlier positions of the pattern's own windows from row 0 to before row n, in the first cells
 -- positions of the pattern; own end 0 is their number
-pub record OwnMismatches (pattern : List ℕ) (width cells n : ℕ) (selves earlies : List ℕ) : Type 0 where
-  pub selves_long : length selves ≡ 256
-  pub earlies_long : length earlies ≡ 256
-  pub whole : get_or selves 0 0 ≡ cells
-  pub each : (k : ℕ) → k < n → OwnEndIs pattern cells (k * width) (get_or selves k 0) (get_or earlies k 0)
+pub record OwnMismatches (pattern : List ℕ) (width cells n : ℕ) (own : List FirstEnd) : Type 0 where
+  pub long : length own ≡ 256
+  pub whole : (own_at own 0).end ≡ cells
+  pub each : (k : ℕ) → k < n → OwnEndIs pattern cells (k * width) (own_at own k).end (own_at own k).earlier
 
 -- as far as they were made for strips of n windows: in as many positions as own end 0 says, in none where it is 0
-pub record OwnSoFar (pattern : List ℕ) (width n : ℕ) (selves earlies : List ℕ) : Type 0 where
-  pub selves_long : length selves ≡ 256
-  pub earlies_long : length earlies ≡ 256
-  pub within : get_or selves 0 0 ≤ length pattern
-  pub each : (k : ℕ) → k < n → k * width < get_or selves 0 0
-      → OwnEndIs pattern (get_or selves 0 0) (k * width) (get_or selves k 0) (get_or earlies k 0)
-
--- what is asked of the pattern's own window from row top to before row rows, which agrees up to place at: the pattern
--- is a strip of its own width
-pub record OwnAt (pattern first last : List ℕ) (height width rows top at : ℕ) : Type 0 where
-  pub sides : SidesOf pattern height width
-  pub some : 1 ≤ rows
-  pub rows_le : rows ≤ height
-  pub top_le : top ≤ rows
-  pub places : FirstPlaces (λ k. get_or pattern k 0) (length pattern) first
-  pub within : at ≤ rows * width
-  pub swept : Swept (λ k. get_or pattern k 0) (λ k. get_or pattern k 0) (top * width) at last
-
--- how many of them a strip of so many windows asks for
-unfoldable pub own_row_count : ℕ → ℕ → ℕ
-own_row_count height windows = pick (ltb windows height) windows height
+pub record OwnSoFar (pattern : List ℕ) (width n : ℕ) (own : List FirstEnd) : Type 0 where
+  pub long : length own ≡ 256
+  pub within : (own_at own 0).end ≤ length pattern
+  pub each : (k : ℕ) → k < n → k * width < (own_at own 0).end
+      → OwnEndIs pattern (own_at own 0).end (k * width) (own_at own k).end (own_at own k).earlier
 
 -- a pattern of sides that were not refused, and what is known of it by itself
-pub record PatternAt (s : Shape) (pattern first selves earlies : List ℕ) : Type 0 where
+pub record PatternAt (s : Shape) (pattern first : List ℕ) (own : List FirstEnd) : Type 0 where
   pub sides : SidesOf pattern s.height s.width
   pub rows_le : s.rows ≤ 255
   pub fits : s.height ≤ s.rows
   pub places : FirstPlaces (λ k. get_or pattern k 0) (length pattern) first
-  pub owns : OwnSoFar pattern s.width (down s) selves earlies
+  pub owns : OwnSoFar pattern s.width (down s) own
 
 -- a text, a pattern of that size, and what is known of the pattern by itself
-pub record SweepAt (text : List ℕ) (s : Shape) (pattern first selves earlies : List ℕ) : Type 0 where
+pub record SweepAt (text : List ℕ) (s : Shape) (pattern first : List ℕ) (own : List FirstEnd) : Type 0 where
   pub shape : ShapeOf s (length text)
   pub cells : length pattern ≡ s.height * s.width
   pub places : FirstPlaces (λ k. get_or pattern k 0) (length pattern) first
-  pub owns : OwnSoFar pattern s.width (down s) selves earlies
+  pub owns : OwnSoFar pattern s.width (down s) own
 
 -- the strip at column left
 abbrev pub column_strip : Shape → ℕ → Strip

@@ -2,29 +2,27 @@
 ghost use Rattle.std.specs.Prelude.{◌-◌, ◌*◌, ◌≤◌, ◌<◌};
 ghost use Rattle.reach.specs.Reach.{ReachAt};
 ghost use Rattle.sweep.specs.Sweep.{NextAt, NextIs};
-ghost use Rattle.placed.specs.Placing.{placed};
 
 use grid::strips::Strip;
-use placed::placing::Placing;
-use reach::laid::laid_reach;
+use placed::pattern::Pattern;
 use reach::reach::reach;
+use rows::run::{FirstEnd, Run};
 
-// Where a run down a strip stands behind a window: the last window that was compared begins at row, and agrees up to
-// place reached of the strip. And the window's first end, with the first position that mismatches with it, or 0 where
-// no mismatch ends in the window.
+// Where a run down a strip stands behind a window; and the window's first end, with the first position that mismatches
+// with it, or 0 where no mismatch ends in the window. No Option, as in `FirstEnd`.
 #[derive(Clone, Copy)]
 pub struct Step {
-    pub row: usize,
-    pub reached: usize,
+    pub run: Run,
     pub end: usize,
     pub earlier: usize,
 }
 
 // The first end of a window that agrees up to column j of row line of the strip.
-pub fn compared(
-    text: &[u8],
+#[inline]
+pub fn compared<P: Pattern, T: Pattern>(
+    text: T,
     s: Strip,
-    pattern: &[u8],
+    pattern: P,
     first: &[usize; 256],
     last: &mut [usize; 256],
     top: usize,
@@ -32,89 +30,60 @@ pub fn compared(
     line: usize,
     j: usize,
 ) -> Step
-    requires { ReachAt text.now s pattern.now first.now last.old top height line j × (top * s.width ≤ 65025) }
-    ensures { NextIs text.now s pattern.now top top height result last.new }
+    requires { ReachAt (T.cells text) s (P.cells pattern) first.now last.old top height line j
+        × (top * s.width ≤ 65025) }
+    ensures { NextIs (T.cells text) s (P.cells pattern) top top height result last.new }
 {
     let r = reach(text, s, pattern, first, last, top, height, line, j);
-    let place = r.place;
+    let reached = r.place;
     Step {
-        row: top,
-        reached: place,
-        end: place - top * s.width,
-        earlier: r.earlier,
-    }
-}
-
-// The same of a pattern as it lies. Who calls either asks for the scale itself: each of them becomes part of one loop,
-// and `compared`, which is small, with it.
-pub fn laid_compared(
-    text: &[u8],
-    s: Strip,
-    pattern: &[u8],
-    g: Placing,
-    first: &[usize; 256],
-    last: &mut [usize; 256],
-    top: usize,
-    height: usize,
-    line: usize,
-    j: usize,
-) -> Step
-    requires { ReachAt text.now s (placed pattern.now g) first.now last.old top height line j
-        × (top * s.width ≤ 65025) }
-    ensures { NextIs text.now s (placed pattern.now g) top top height result last.new }
-{
-    let r = laid_reach(text, s, pattern, g, first, last, top, height, line, j);
-    let place = r.place;
-    Step {
-        row: top,
-        reached: place,
-        end: place - top * s.width,
+        run: Run { row: top, reached },
+        end: reached - top * s.width,
         earlier: r.earlier,
     }
 }
 
 // The first end of the window at row top: it is the pattern's own where that lies in what agreed of the last window
 // compared, and else what agreed of that one agrees of this one too.
-pub fn next_end(
-    text: &[u8],
+#[inline]
+pub fn next_end<P: Pattern, T: Pattern>(
+    text: T,
     s: Strip,
-    pattern: &[u8],
-    g: Placing,
+    pattern: P,
     first: &[usize; 256],
     last: &mut [usize; 256],
-    selves: &[usize; 256],
-    earlies: &[usize; 256],
-    row: usize,
-    reached: usize,
+    own: &[FirstEnd; 256],
+    run: Run,
     top: usize,
     height: usize,
 ) -> Step
-    requires { NextAt text.now s (placed pattern.now g) first.now last.old selves.now earlies.now row reached top
-        height }
-    ensures { NextIs text.now s (placed pattern.now g) row top height result last.new }
+    requires { NextAt (T.cells text) s (P.cells pattern) first.now last.old own.now run top height }
+    ensures { NextIs (T.cells text) s (P.cells pattern) run.row top height result last.new }
 {
     let width = s.width;
     let start = top * width;
+    let reached = run.reached;
     if reached <= start {
-        if g.scale == 1 {
-            return compared(text, s, pattern, first, last, top, height, top, 0);
-        }
-        return laid_compared(text, s, pattern, g, first, last, top, height, top, 0);
+        return compared(text, s, pattern, first, last, top, height, top, 0);
     }
-    let k = top - row;
-    let end = selves[k];
+    let k = top - run.row;
+    let end = own[k].end;
     if end < reached - start {
         return Step {
-            row,
-            reached,
+            run,
             end,
-            earlier: earlies[k],
+            earlier: own[k].earlier,
         };
     }
-    let line = reached / width;
-    let column = reached % width;
-    if g.scale == 1 {
-        return compared(text, s, pattern, first, last, top, height, line, column);
-    }
-    laid_compared(text, s, pattern, g, first, last, top, height, line, column)
+    compared(
+        text,
+        s,
+        pattern,
+        first,
+        last,
+        top,
+        height,
+        reached / width,
+        reached % width,
+    )
 }

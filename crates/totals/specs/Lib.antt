@@ -1,3 +1,3 @@
-pub mod Laid
+pub mod Enlarged
 pub mod Pattern
 pub mod Totalled

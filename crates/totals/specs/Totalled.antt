@@ -1,38 +1,52 @@
--- The totals of a question: the windows found and refused, and the length of their listing; and that the ones among
--- flags that are the truth are the windows found (`totalled`).
+-- The totals of a question from its flags: the ones among flags that are the truth are the windows found (`totalled`).
 -- Assumes nothing.
-use Rattle.std.specs.Prelude.{◌≡◌, List, ℕ, ◌*◌, ◌≤◌, ◌<◌, length, get_or}
-use Rattle.std.proofs.Common.{◌∙◌, arith}
+use Rattle.std.specs.Prelude.{◌≡◌, refl, List, ℕ, ◌-◌, ◌*◌, ◌≤◌, ◌<◌, eqb, length, get_or, take, count_by}
+use Rattle.std.proofs.Common.{sym, ap, ◌∙◌, take_all, arith}
+use Rattle.std.proofs.lemmas.List.{length-take-le, get_or-take}
 use Rattle.shapes.specs.Questions.{asked}
 use Rattle.shapes.specs.Shapes.{across, down}
 use Rattle.shapes.specs.declared.shapes.Shape.{Shape}
 use Rattle.occurrences.specs.Distinct.{distinct}
 use Rattle.flags.specs.Flags.Strips.{flag_of}
-use Rattle.entries.specs.Listing.{found_in, refused_in, listing_length, needed_length, search_listing}
-use Rattle.entries.specs.Listing.Totals.{ones, others, ones_found, others_refused}
-use Rattle.entries.specs.Listing.Length.{length_listing}
+use Rattle.entries.specs.Listing.{listing_length, needed_length}
+use Rattle.entries.specs.Listing.Totals.{totals_in, ones, others, ones_counted, others_left, ones_found}
+use Rattle.entries.specs.Listing.Totals.{others_refused}
+use Rattle.listing.specs.declared.totals.Totals.{Totals}
 
--- the windows found and refused, and the length of their listing
-pub record Totalled (text pattern : List ℕ) (s : Shape) (found refused size : ℕ) : Type 0 where
-  pub found_is : found ≡ found_in (asked text pattern s)
-  pub refused_is : refused ≡ refused_in (asked text pattern s)
-  pub size_is : size ≡ needed_length (asked text pattern s)
+-- what flags add up to, of a pattern with so many symbols
+abbrev pub totals_flagged : List ℕ → ℕ → Totals ℕ
+totals_flagged flags symbols =
+    let found = ones flags (length flags) in
+    let refused = others flags (length flags) in
+    record { found = found; refused = refused; length = listing_length found refused symbols }
 
--- the ones and the others of flags that are the truth
-pub totalled : (text pattern : List ℕ) (s : Shape) (flags : List ℕ)
-    → ((k : ℕ) → k < down s * across s → get_or flags k 0 ≡ flag_of text pattern s k) → (found refused size : ℕ)
-    → found ≡ ones flags (down s * across s) → refused ≡ others flags (down s * across s)
-    → size ≡ listing_length found refused (distinct pattern) → Totalled text pattern s found refused size
+-- those that are 1 counted, and the others left
+pub totals_counted : (flags : List ℕ) (symbols found : ℕ) → found ≡ count_by (λ x. eqb x 1) flags
+    → record {
+      found = found;
+      refused = length flags - found;
+      length = listing_length found (length flags - found) symbols;
+    }
+    ≡ totals_flagged flags symbols
+totals_counted flags symbols found e = rw (others_left flags n found counted, counted) refl
+  where
+    n : ℕ
+    n = length flags
+
+    counted : found ≡ ones flags n
+    counted =
+        e ∙ ap (count_by (λ x. eqb x 1)) (sym (take_all n flags (omega arith))) ∙ ones_counted flags n (omega arith)
+
+-- the first flags of a buffer, if they are the truth of every window
+pub totalled : (text pattern : List ℕ) (s : Shape) (flags : List ℕ) → down s * across s ≤ length flags
+    → ((k : ℕ) → k < down s * across s → get_or flags k 0 ≡ flag_of text pattern s k) → (symbols : ℕ)
+    → symbols ≡ distinct pattern
+    → totals_flagged (take (down s * across s) flags) symbols ≡ totals_in (asked text pattern s)
 unfolding needed_length
-totalled text pattern s flags flags_are found refused size a b e =
-    let f : found ≡ found_in (asked text pattern s) = a ∙ ones_found text pattern s flags flags_are in
-    let g : refused ≡ refused_in (asked text pattern s) = b ∙ others_refused text pattern s flags flags_are in
-    record { found_is = f; refused_is = g; size_is = e ∙ rw (f, g) }
-
--- a buffer as long as the size has room for the listing
-pub listing_fits : (text pattern : List ℕ) (s : Shape) (found refused size listing : ℕ)
-    → Totalled text pattern s found refused size
-    → ((k : ℕ) → get_or pattern k 0 < 256) → size ≤ listing
-    → length (search_listing (asked text pattern s)) ≤ listing
-listing_fits text pattern s found refused size listing t small h =
-    omega (arith, t.size_is, length_listing (asked text pattern s) small)
+totalled text pattern s flags room flags_are symbols e =
+    let n = down s * across s in
+    let front = take n flags in
+    let long : length front ≡ n = length-take-le n flags room in
+    let truth : (k : ℕ) → k < n → get_or front k 0 ≡ flag_of text pattern s k =
+    λ k h. get_or-take n flags k 0 h ∙ flags_are k h in
+    rw (long, ones_found text pattern s front truth, others_refused text pattern s front truth, e)

@@ -12,7 +12,8 @@ use Rattle.flags.specs.Flags.Strips.{flag_of}
 -- the flags of the windows at column left are the truth
 unfoldable pub column_true : List ℕ → List ℕ → Shape → ℕ → List ℕ → Bool
 column_true text pattern s left flags =
-    every (λ top. eqb (get_or flags (top * across s + left) 0) (flag_of text pattern s (top * across s + left))) (down s)
+    every (λ top. eqb (get_or flags (top * across s + left) 0) (flag_of text pattern s (top * across s + left)))
+    (down s)
 
 -- those of its first n windows are
 abbrev pub TrueTo : List ℕ → List ℕ → Shape → ℕ → List ℕ → ℕ → Type 0

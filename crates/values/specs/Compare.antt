@@ -3,23 +3,15 @@
 -- Assumes nothing.
 pub mod Laws
 use Rattle.std.specs.Prelude.{ℕ, List, [], ◌∷◌}
-use Rattle.refusals.specs.Said.{Said, accepts, refuses, said_values, new_by}
+use Rattle.refusals.specs.Said.{Said, accepts, refuses, new_by}
 use Rattle.shapes.specs.Questions.{Question}
-use Rattle.matching.specs.Compare.{verdict_said, bijection_at, window_said}
-use Rattle.matching.specs.declared.compare.Verdict.{Verdict}
-use Rattle.matching.specs.declared.compare.Verdict.TheVariants.{Match, Mismatch, Refused}
+use Rattle.matching.specs.Compare.{bijection_at, window_said}
 use Rattle.mapping.specs.declared.bijections.Bijection.{Bijection}
 
 -- a mismatch's kind, its earlier and its later cell; three zeros where a verdict has no values
 abbrev pub three_of : List ℕ → List ℕ
 three_of [] = 0 ∷ 0 ∷ 0 ∷ []
 three_of (kind ∷ cells) = kind ∷ cells
-
--- the same of a verdict
-abbrev pub mismatch_of : Verdict → List ℕ
-mismatch_of Match = 0 ∷ 0 ∷ 0 ∷ []
-mismatch_of (Mismatch alike earlier later) = said_values (verdict_said (Mismatch alike earlier later))
-mismatch_of (Refused why) = 0 ∷ 0 ∷ 0 ∷ []
 
 -- what a call that says so leaves in a lent list: accepted, its values as three numbers; refused, what stood there
 abbrev pub three_by : Said → List ℕ → List ℕ

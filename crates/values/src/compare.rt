@@ -1,27 +1,15 @@
 // What the one-window question answers, in numbers.
 ghost use Rattle.std.specs.Prelude.{◌≡◌};
-ghost use Rattle.refusals.specs.Said.{said_number, said_values};
-ghost use Rattle.matching.specs.Compare.{verdict_said};
+ghost use Rattle.refusals.specs.Said.{said_number, said_values, new_by};
+ghost use Rattle.matching.specs.Compare.{verdict_said, told};
 ghost use Rattle.matching.specs.declared.compare.Verdict.TheVariants.{Mismatch};
-ghost use Rattle.values.specs.Compare.{mismatch_of};
+ghost use Rattle.values.specs.Bijections.{from_columns};
+ghost use Rattle.values.specs.Compare.{three_by};
 
+use crate::bijections::write_columns;
+use mapping::bijections::Bijection;
 use matching::compare::Verdict;
-use refusals::refusals::refusal_number;
-
-// The number of a verdict.
-pub fn verdict_number(verdict: Verdict) -> u8
-    ensures { result ≡ said_number (verdict_said verdict) }
-{
-    match verdict {
-        Verdict::Match => 0,
-        Verdict::Mismatch {
-            alike_in_pattern: _,
-            earlier: _,
-            later: _,
-        } => 0,
-        Verdict::Refused(why) => refusal_number(why),
-    }
-}
+use refusals::refusals::{Refusal, answer_number};
 
 // The values of a mismatch: the kind of its record, 3 or 4 by the side alike, and its cells.
 pub fn mismatch_values(alike_in_pattern: bool, earlier: usize, later: usize) -> [usize; 3]
@@ -33,17 +21,35 @@ pub fn mismatch_values(alike_in_pattern: bool, earlier: usize, later: usize) -> 
     [4, earlier, later]
 }
 
-// A mismatch as three numbers: zeros where there is none.
-pub fn verdict_values(verdict: Verdict) -> [usize; 3]
-    ensures { result ≡ mismatch_of verdict }
+// Writes an answer, where it is not refused, and gives its number. A match has zeros for a mismatch, and a mismatch the
+// empty bijection.
+pub fn write_verdict(
+    answer: Result<Verdict, Refusal>,
+    forward: &mut [u16; 256],
+    backward: &mut [u16; 256],
+    mismatch: &mut [usize; 3],
+) -> u8
+    ensures number { result ≡ said_number (told answer).said }
+    ensures bijection_after { from_columns forward.new backward.new
+        ≡ new_by (told answer).said (told answer).bijection (from_columns forward.old backward.old) }
+    ensures mismatch_after { mismatch.new ≡ three_by (told answer).said mismatch.old }
 {
-    match verdict {
-        Verdict::Match => [0, 0, 0],
-        Verdict::Mismatch {
-            alike_in_pattern,
-            earlier,
-            later,
-        } => mismatch_values(alike_in_pattern, earlier, later),
-        Verdict::Refused(_) => [0, 0, 0],
+    match answer {
+        Ok(Verdict::Match(b)) => {
+            write_columns(b, forward, backward);
+            *mismatch = [0, 0, 0];
+        }
+        Ok(
+            Verdict::Mismatch {
+                alike_in_pattern,
+                earlier,
+                later,
+            },
+        ) => {
+            write_columns(Bijection::empty(), forward, backward);
+            *mismatch = mismatch_values(alike_in_pattern, earlier, later);
+        }
+        Err(_) => {}
     }
+    answer_number(&answer)
 }

@@ -1,4 +1,4 @@
-// Sets of symbols as four words.
+// Sets of symbols as four words, with no `From`: a set's type is of another crate, and so are arrays.
 ghost use Rattle.std.specs.Prelude.{◌≡◌};
 ghost use Rattle.values.specs.Symbols.{word_list, symbols_of_words};
 

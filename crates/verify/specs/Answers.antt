@@ -1,16 +1,12 @@
 -- What the check answers: where a window or the closing stops the walk, where the listing is kept, and where 2, 3, 4
 -- refuse before it begins.
 -- Assumes nothing.
-use Rattle.std.specs.Prelude.{◌≡◌, List, [], ℕ, ◌-◌}
-use Rattle.std.proofs.Common.{◌∙◌, arith}
+use Rattle.std.proofs.Common.{◌≡◌, List, [], ℕ, ◌-◌, ◌∙◌, arith, Ok, Err}
 use Rattle.theory.specs.Count.Laws.{count_not}
-use Rattle.refusals.specs.Said.{accepts, outcome_said}
+use Rattle.refusals.specs.Said.{accepts}
 use Rattle.shapes.specs.Questions.{Question, windows_of, shape_said}
 use Rattle.refusals.specs.declared.refusals.Refusal.{Refusal}
-use Rattle.refusals.specs.declared.refusals.Outcome.{Outcome}
-use Rattle.refusals.specs.declared.refusals.Outcome.TheVariants.{Refused as RefusedOutcome}
 use Rattle.claims.specs.Claims.{Walk}
-use Rattle.std.specs.Prelude.{Ok, Err}
 use Rattle.rules.specs.Check.{closing_from, windows_to, stands_found, found_to, refused_to, listing_walk, checked_said}
 use Rattle.rules.specs.Check.{Checked, kept, walk_said, listing_said, check_of}
 
@@ -47,13 +43,7 @@ module _ (q : Question) (listing : List ℕ) where
 
   -- ---- 2, 3, 4 before it
 
-  -- what they refuse stays so
-  pub check_refused : (o : Outcome) (why : Refusal) → o ≡ RefusedOutcome why → outcome_said o ≡ shape_said q
-      → checked_said (Err why) ≡ check_of q listing
-  unfolding check_of
-  check_refused o why e d = rw (← d, e)
-
-  -- else the walk's answer is the check's
+  -- where they refuse nothing, the walk's answer is the check's
   pub check_walked : (r : Checked) → shape_said q ≡ accepts [] → checked_said r ≡ listing_said q listing
       → checked_said r ≡ check_of q listing
   unfolding check_of

@@ -1,28 +1,26 @@
 -- What the walk over all windows says.
 -- Assumes nothing.
-use Rattle.std.specs.Prelude.{◌≡◌, Bool, List, eqb, length, get_or, replicate}
-use Rattle.std.proofs.Math.Path.{refl, ap}
-use Rattle.std.proofs.Common.{sym, ◌∙◌, subst, add-zero, add-suc, add-one, arith}
-use Prim.Native.Nat.{ℕ, zero, suc, ◌+◌, ◌-◌, ◌*◌, ◌≤◌, ◌<◌}
+use Rattle.std.proofs.Common.{◌≡◌, Bool, List, eqb, length, get_or, replicate, refl, ap, sym, ◌∙◌, subst, add-zero}
+use Rattle.std.proofs.Common.{add-suc, add-one, arith, ℕ, zero, suc, ◌+◌, ◌-◌, ◌*◌, ◌≤◌, ◌<◌, Result, Ok, Err, Option}
+use Rattle.std.proofs.Common.{Some, None}
 use Rattle.std.proofs.lemmas.List.{length-replicate}
 use Rattle.theory.specs.Test.{pick}
-use Rattle.theory.specs.Older.Laws.{older_zeros}
 use Rattle.theory.specs.Count.{count}
 use Rattle.theory.specs.Count.Laws.{count_le}
 use Rattle.shapes.specs.Shapes.{ShapeOf, across, down}
 use Rattle.shapes.specs.declared.shapes.Shape.{Shape}
 use Rattle.shapes.specs.Questions.{Question, windows_of}
 use Rattle.refusals.specs.declared.refusals.Refusal.{Refusal}
-use Rattle.matching.specs.Compare.{Placed, cell_count}
+use Rattle.view.specs.Places.{Placed, cell_count}
 use Rattle.matching.specs.Windows.{window_place}
 use Rattle.matching.specs.Windows.Laws.{placed_window}
 use Rattle.cells.specs.declared.windows.WindowPlace.{WindowPlace}
-use Rattle.sweep.specs.Sweep.{SidesOf}
+use Rattle.rows.specs.declared.run.FirstEnd.{FirstEnd}
+use Rattle.sweep.specs.Sweep.{own_at, SidesOf}
 use Rattle.inheriting.specs.Inheritance.{CheckTables}
 use Rattle.inheriting.specs.declared.tables.Tables.{Tables}
 use Rattle.inheriting.specs.Offsets.Laws.{prepared_none}
 use Rattle.claims.specs.Claims.{Walk}
-use Rattle.std.specs.Prelude.{Result, Ok, Err, Option, Some, None}
 use Rattle.rules.specs.Check.{entry_from, place_in, windows_to, stands_found, found_to}
 use Rattle.rules.specs.Entries.{goes_found}
 use Rattle.verify.specs.declared.windows.Passed.{Passed}
@@ -98,7 +96,7 @@ window_asks text pattern s shape size k h v e =
 
 -- before the first window nothing is
 pub tables_none : (text pattern : List ℕ) (columns height width : ℕ) (tables : Tables) → SidesOf pattern height width
-    → columns ≤ 255 → tables.offsets ≡ None → tables.selves ≡ replicate 256 0 → tables.tops ≡ replicate 256 None
+    → columns ≤ 255 → tables.offsets ≡ None → tables.own ≡ replicate 256 (record { end = 0; earlier = 0 }) → tables.tops ≡ replicate 256 None
     → CheckTables text pattern columns height width tables
 tables_none text pattern columns height width tables sides narrow f s t =
     record {
@@ -110,15 +108,19 @@ tables_none text pattern columns height width tables sides narrow f s t =
           each = λ j row e. absurd (none j row (rw t at e));
         };
         owned = record {
-          long = (older_zeros 1 tables.selves (omega arith) s).long;
-          made = λ h. absurd (unmade tables.selves s h);
+          long = rw s (length-replicate {A = FirstEnd} 256 (record { end = 0; earlier = 0 }));
+          made = λ h. absurd (unmade (subst (λ (l : List FirstEnd). 0 < (own_at l 0).end) s h));
         };
       };
       prepared = rw f (prepared_none pattern columns width);
     }
   where
-    unmade : (l : List ℕ) → l ≡ replicate 256 0 → 0 < get_or l 0 0 → ⊥
-    unmade l e h = omega (arith, (older_zeros 1 l (omega arith) e).below 0)
+    none_made : (n : ℕ) → (own_at (replicate {A = FirstEnd} n (record { end = 0; earlier = 0 })) 0).end ≡ 0
+    none_made zero = refl
+    none_made (suc n) = refl
+
+    unmade : 0 < (own_at (replicate {A = FirstEnd} 256 (record { end = 0; earlier = 0 })) 0).end → ⊥
+    unmade h = omega (arith, h, none_made 256)
 
     nones : (n j : ℕ) → get_or (replicate {A = Option ℕ} n None) j None ≡ None
     nones zero j = refl

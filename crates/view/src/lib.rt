@@ -2,24 +2,34 @@
 // copied.
 #![tactic(auto)]
 
-ghost use Rattle.std.specs.Prelude.{◌≡◌, ◌+◌};
-ghost use Rattle.cells.specs.Windows.{cells_of_row, window_at};
-ghost use Rattle.view.specs.Inside.{RowInside, CellInside};
+ghost use Rattle.std.specs.Prelude.{◌≡◌, ◌+◌, ◌<◌};
+ghost use Rattle.cells.specs.Windows.{cells_of_row};
+ghost use Rattle.view.specs.Places.{window_of, cell_count, corner_of, Placed};
 
 use cells::windows::WindowPlace;
 
 // A window of a text: its rows are parts of the text, the place's row width apart, and the first one begins at the
-// corner.
+// corner. Who makes a view shows that the window lies in the text, and whoever is handed one knows it.
 #[derive(Clone, Copy)]
 pub struct WindowView<'a> {
     pub text: &'a [u8],
     pub place: WindowPlace,
+    pub ghost placed: { Placed text.now place },
 }
 
 impl<'a> WindowView<'a> {
+    // Where the window's corner lies in the text.
+    #[inline]
+    pub fn corner(self) -> usize
+        ensures { result ≡ corner_of self.entry.place }
+    {
+        self.place.row * self.place.columns + self.place.column
+    }
+
     // Row i of the window, as a part of the text.
+    #[inline]
     pub fn row_cells(self, i: usize) -> &'a [u8]
-        requires { RowInside self.text.now self.place.columns self.place.row self.place.column self.place.width i }
+        requires { i < self.place.height }
         ensures { let v = self.entry.place in
             result.now ≡ cells_of_row self.entry.text.now v.columns (v.row + i) v.column v.width }
     {
@@ -29,10 +39,10 @@ impl<'a> WindowView<'a> {
     }
 
     // The symbol at position p of the window.
+    #[inline]
     pub fn symbol(self, p: usize) -> u8
-        requires { CellInside self.text.now self.place.columns self.place.row self.place.column self.place.width p }
-        ensures { let v = self.entry.place in
-            result ≡ window_at self.entry.text.now v.columns v.row v.column v.width p }
+        requires { p < cell_count self.place }
+        ensures { result ≡ window_of self.entry.text.now self.entry.place p }
     {
         let v = self.place;
         let i = p / v.width;

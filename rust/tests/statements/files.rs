@@ -63,12 +63,12 @@ fn declared_by(line: &str) -> Option<&str> {
     (is_name && is_declared).then_some(name)
 }
 
-/// The names that a line of Rattle declares: a function, a type, a constant, or a case of an enum.
+/// The names that a line of Rattle declares: a function, a type, a trait, a constant, or a case of an enum.
 fn declared_in_code(line: &str) -> Vec<&str> {
     let words: Vec<&str> = line
         .split(|c: char| !(c.is_alphanumeric() || c == '_'))
         .collect();
-    let keys = ["fn", "struct", "enum", "const"];
+    let keys = ["fn", "struct", "enum", "trait", "const"];
     let pairs = words.windows(2).filter(|pair| keys.contains(&pair[0]));
     let mut names: Vec<&str> = pairs.map(|pair| pair[1]).collect();
     if let Some(rest) = line.strip_prefix("    ") {
@@ -159,6 +159,7 @@ fn declarations_are_read() {
     assert_eq!(declared_by("-- a comment : of this"), None);
     assert_eq!(declared_by("number_of_reason SideRange = 2"), None);
     assert_eq!(declared_in_code("pub fn search("), ["search"]);
+    assert_eq!(declared_in_code("pub trait Pattern: Copy {"), ["Pattern"]);
     assert_eq!(declared_in_code("    Plain(Reason),"), ["Plain"]);
 }
 

@@ -1,19 +1,20 @@
 -- Reads of a window: a cell by row and column, a row as a part of the text, a window as its rows. Places are sums and
 -- products, so most of it is division with remainder by the width.
 -- Assumes nothing.
-use Rattle.std.specs.Prelude.{◌≡◌, ℕ, suc, ◌+◌, ◌-◌, ◌*◌, ◌/◌, ◌%◌, ◌≤◌, ◌<◌, min, length, get_or, take, drop}
+use Rattle.std.specs.Prelude.{◌≡◌, Bool, true, false, Some, None, slice_get, ℕ, suc, ◌+◌, ◌-◌, ◌*◌, ◌/◌, ◌%◌, ◌≤◌, ◌<◌, length, get_or, take, drop, min}
 use Rattle.std.proofs.Math.Path.{refl, sym, ap, ap₂}
-use Rattle.std.proofs.Common.{◌∙◌, add-zero, add-mul, add_assoc, zero-add, one-mul, mul-le-mul_right, mod-eq_of_lt, arith, drop_of_length-le, lt-ltb, le-ltb}
+use Rattle.std.proofs.Common.{◌∙◌, add-zero, add-mul, add_assoc, zero-add, one-mul, mul-le-mul_right, mod-eq_of_lt, arith, drop_of_length-le}
 use mathlib.Core.List.{List, [], ◌∷◌, ◌++◌}
 use Rattle.std.proofs.Math.Nat.{add_comm, suc-mul, zero-mul, min-le_left, mul-add-div_right, mul-add-mod_self_right, div-eq_of_lt}
 use Rattle.std.proofs.Math.ListN.{length-take, length-drop}
 use Rattle.std.proofs.Math.Seq.{get_or-take, get_or-drop, take_all, take-nil}
+use Rattle.std.proofs.lemmas.Option.{slice_get-get_or, slice_get_past}
+use Rattle.theory.specs.Test.{pick, Tested, holds, fails}
+use Rattle.theory.specs.Test.Laws.{lt_tested, pick_true, pick_false}
 use Rattle.std.proofs.Math.Decide.{dec_le}
-use Rattle.theory.specs.Test.Laws.{pick_true, pick_false}
 use Rattle.theory.specs.Table.{table}
 use Rattle.theory.specs.Table.Laws.{table-zero, length-table, get_or-table, table_ext, table-add, table_is}
 use Rattle.shapes.specs.Shapes.{Shaped}
-use Rattle.cells.specs.declared.windows.Cell.TheVariants.{Symbol, PastEnd}
 use Rattle.cells.specs.Windows.{place, cell_of, window_at, window_cells, cells_of_row, strip_at, corner_row, corner_column}
 use Rattle.cells.specs.Windows.{offset_of}
 
@@ -26,15 +27,14 @@ corner_column_lem across row column h = rw (mul-add-mod_self_right row across co
 -- ---- one cell
 
 module _ (text : List ℕ) (row_width row column i j : ℕ) where
-  pub cell_inside : (at : ℕ) → at ≡ (row + i) * row_width + column + j → at < length text
-      → Symbol (get_or text at 0) ≡ cell_of text row_width row column i j
+  pub cell_read : (at : ℕ) → at ≡ (row + i) * row_width + column + j
+      → slice_get text at ≡ cell_of text row_width row column i j
   unfolding cell_of place
-  cell_inside at e h = rw (← e) (sym (pick_true _ _ (lt-ltb _ _ h)))
-
-  pub cell_past_end : (at : ℕ) → at ≡ (row + i) * row_width + column + j → length text ≤ at
-      → PastEnd ≡ cell_of text row_width row column i j
-  unfolding cell_of place
-  cell_past_end at e h = rw (← e) (sym (pick_false _ _ (le-ltb _ _ h)))
+  cell_read at e = rw (← e) (go _ (lt_tested at (length text)))
+    where
+      go : (t : Bool) → Tested (at < length text) t → slice_get text at ≡ pick t (Some (get_or text at 0)) None
+      go true (holds h) = slice_get-get_or text at 0 h
+      go false (fails n) = slice_get_past text at (omega (arith, n))
 
 -- ---- positions
 

@@ -1,8 +1,8 @@
 -- What the reader's answer says of the record at a place. A whole record stands there as its kind, and its bytes are
 -- those of the listing; where the reader refuses, no record of any kind stands.
 -- Assumes nothing.
-use Rattle.std.specs.Prelude.{◌≡◌, true, false, List, ℕ, ◌+◌, ◌≤◌, ◌<◌, length, get_or, drop}
-use Rattle.std.proofs.Common.{sym, ◌∙◌, ap, add-zero, arith, get_or-take, get_or-drop}
+use Rattle.std.proofs.Common.{◌≡◌, true, false, List, ℕ, ◌+◌, ◌≤◌, ◌<◌, length, get_or, drop, sym, ◌∙◌, ap, add-zero}
+use Rattle.std.proofs.Common.{arith, get_or-take, get_or-drop, Ok, Err}
 use Rattle.theory.specs.Test.{Tested}
 use Rattle.theory.specs.Test.Laws.{eq_tested, both_tested, is_true, is_false, says_true}
 use Rattle.refusals.specs.declared.refusals.Refusal.{Refusal}
@@ -13,7 +13,6 @@ use Rattle.reading.specs.Reader.Answers.{WholeAt, read_whole, refused_none}
 use Rattle.reading.specs.Reader.RoundTrip.{bytes_some, size_is}
 use Rattle.listing.specs.declared.records.Record.{Record}
 use Rattle.reading.specs.declared.reader.Cursor.{Cursor}
-use Rattle.std.specs.Prelude.{Ok, Err}
 use Rattle.claims.specs.Claims.{byte_at, stands}
 
 module _ (listing : List ℕ) (at : ℕ) where

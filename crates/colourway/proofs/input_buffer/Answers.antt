@@ -6,5 +6,5 @@ use Prim.Native.Nat.{ℕ}
 use Rattle.program.specs.Theorems.{long_enough}
 use Rattle.colourway.proofs.input_buffer.Goals as goal
 
-pub returns-clause-by_index : goal.returns-clause-by_index
-returns-clause-by_index c = (long_enough (replicate 32773 0) (sym (length-replicate {A = ℕ} 32773 0))).1
+pub returns-clause-enough : goal.returns-clause-enough
+returns-clause-enough c = (long_enough (replicate 32773 0) (sym (length-replicate {A = ℕ} 32773 0))).1

@@ -1,7 +1,7 @@
 -- `read_full` meets its contract: what has been read lies in the buffer, which keeps its length. The measure is the room
 -- that is left.
 -- Assumes nothing.
-use Rattle.std.proofs.Common.{length, ◌-◌, ◌≤◌, ◌≡◌}
+use Rattle.std.proofs.Common.{length, ◌-◌, ◌≤◌}
 use Rattle.colourway.proofs.read_full.Given as goal
 
 abbrev pub invariant-loop-done : goal.invariant-loop-done

@@ -1,7 +1,7 @@
 -- What the counts operation refuses and leaves; that the occurrences slid down a strip are those of its windows; and
 -- that the strips, each written column by column, are all windows row by row.
 -- Assumes nothing.
-use Rattle.std.specs.Prelude.{◌≡◌, ℕ, zero, suc, ◌+◌, ◌-◌, ◌*◌, ◌/◌, ◌%◌, ◌≤◌, ◌<◌, leb, length}
+use Rattle.std.specs.Prelude.{Result, Ok, Err, ⊤, ◌≡◌, ℕ, zero, suc, ◌+◌, ◌-◌, ◌*◌, ◌/◌, ◌%◌, ◌≤◌, ◌<◌, leb, length}
 use Rattle.std.proofs.Common.{sym, ◌∙◌, subst, mul-le-mul_right, suc-mul, mod-lt, div-lt_iff_lt-mul, div-add-mod', add-one, sub-one, arith}
 use Rattle.std.proofs.Math.Path.{ap}
 use mathlib.Core.List.{List, [], ◌++◌}
@@ -19,8 +19,6 @@ use Rattle.shapes.specs.Questions.Laws.{text_shaped, text_said_lem}
 use Rattle.shapes.specs.Shapes.{corners, ShapeOf, across, down}
 use Rattle.shapes.specs.Shapes.Laws.{product_le}
 use Rattle.refusals.specs.declared.refusals.Refusal.{Refusal}
-use Rattle.refusals.specs.declared.refusals.Outcome.{Outcome}
-use Rattle.refusals.specs.declared.refusals.Outcome.TheVariants.{Accepted, Refused}
 use Rattle.cells.specs.Windows.{window_cells, cells_of_row}
 use Rattle.cells.specs.Windows.Laws.{corner_row_lem, corner_column_lem, row_inside, length_row_le, length-cells, cells_none}
 use Rattle.cells.specs.Windows.Laws.{length_row, cells_last_row, cells_first_row}
@@ -35,7 +33,7 @@ use Rattle.counts.specs.Counts.{window_count, count_in, counts_said, counts_of, 
 
 module _ (text : List ℕ) (s : Shape) (room : ℕ) where
   -- 2, 3, 4 are refused as everywhere
-  pub counts_stopped : (o : Outcome) (why : Refusal) → o ≡ Refused why → outcome_said o ≡ text_said text s
+  pub counts_stopped : (o : Result ⊤ Refusal) (why : Refusal) → o ≡ Err why → outcome_said o ≡ text_said text s
       → outcome_said o ≡ counts_said text s room
   unfolding counts_said
   counts_stopped o why e d = then_stopped o why (text_said text s) _ e d
@@ -68,7 +66,7 @@ module _ (text : List ℕ) (s : Shape) (counts : List ℕ) where
   counts_after e = rw (e, length-table (count_in text s) (down s * across s))
 
   -- a refused call
-  pub counts_kept : (o : Outcome) (why : Refusal) → o ≡ Refused why → outcome_said o ≡ counts_said text s (length counts)
+  pub counts_kept : (o : Result ⊤ Refusal) (why : Refusal) → o ≡ Err why → outcome_said o ≡ counts_said text s (length counts)
       → filled o counts ≡ counts_of text s counts
   unfolding counts_of
   counts_kept o why e d =
@@ -77,7 +75,7 @@ module _ (text : List ℕ) (s : Shape) (counts : List ℕ) where
   -- an accepted one
   pub counts_new : (r : List ℕ) → counts_said text s (length counts) ≡ accepts []
       → r ≡ table (count_in text s) (down s * across s) ++ drop (down s * across s) counts
-      → filled Accepted r ≡ counts_of text s counts
+      → filled (Ok tt) r ≡ counts_of text s counts
   unfolding counts_of
   counts_new r z e =
       filled_new (counts_said text s (length counts)) (table (count_in text s) (down s * across s)) counts r z
@@ -202,7 +200,7 @@ windows_covered s pos =
 -- all strips written are the buffer that an accepted call leaves
 pub counts_written : (text : List ℕ) (s : Shape) (counts r : List ℕ) → counts_said text s (length counts) ≡ accepts []
     → r ≡ stored_rows (count_in text s) (λ left top. top * across s + left) (across s) (down s) counts
-    → filled Accepted r ≡ counts_of text s counts
+    → filled (Ok tt) r ≡ counts_of text s counts
 counts_written text s counts r z e =
     let p = counts_passed text s (length counts) [] z in
     counts_new text s counts r z

@@ -1,10 +1,8 @@
 -- The records of one window are those of its answer: a found window's pairs have the window's symbols at the first
 -- place of each symbol, and a refused window's record has the mismatch that ends first and then begins first.
 -- Assumes nothing.
-use Rattle.std.specs.Prelude.{◌≡◌, refl, Bool, List, [], ◌∷◌, eqb, length, get_or}
-use Rattle.std.proofs.Math.Path.{sym, ap}
-use Rattle.std.proofs.Common.{◌∙◌, mod-lt, div-lt_iff_lt-mul, arith}
-use Prim.Native.Nat.{ℕ, ◌+◌, ◌*◌, ◌/◌, ◌%◌, ◌<◌}
+use Rattle.std.specs.Prelude.{◌≡◌, refl, Bool, List, [], ◌∷◌, ℕ, ◌+◌, ◌*◌, ◌/◌, ◌%◌, ◌<◌, eqb, length, get_or}
+use Rattle.std.proofs.Common.{sym, ap, ◌∙◌, mod-lt, div-lt_iff_lt-mul, arith}
 use Rattle.theory.specs.Test.{pick, Tested, holds, fails}
 use Rattle.theory.specs.Test.Laws.{lt_tested}
 use Rattle.theory.specs.Count.Laws.{members_pass}
@@ -14,7 +12,8 @@ use Rattle.theory.specs.Match.Even.{Even, maps_even, even_carries, earliest_le}
 use Rattle.theory.specs.Match.Answers.{match_iff}
 use Rattle.sets.specs.Symbols.{symbols_of}
 use Rattle.occurrences.specs.Distinct.{contains}
-use Rattle.matching.specs.Compare.{cell_of_pattern, window_of, cell_count, Placed}
+use Rattle.matching.specs.Compare.{cell_of_pattern}
+use Rattle.view.specs.Places.{window_of, cell_count}
 use Rattle.matching.specs.Compare.Verdicts.{answer_mismatch, answer_match}
 use Rattle.matching.specs.Windows.{SmallPlace}
 use Rattle.cells.specs.declared.windows.WindowPlace.{WindowPlace}
@@ -25,7 +24,8 @@ use Rattle.listing.specs.declared.records.Record.{Record}
 use Rattle.listing.specs.declared.records.Record.TheVariants.{Found}
 use Rattle.entries.specs.Listing.{entry_at}
 use Rattle.entries.specs.Listing.Length.{length_entry}
-use Rattle.entries.specs.Listing.Offsets.{PairTables, first_place, place_stands}
+use Rattle.entries.specs.Listing.Offsets.{pair_places, first_place, place_stands}
+use Rattle.entries.specs.declared.offsets.PairPlace.{PairPlace}
 
 -- the window's symbol at the first place of each symbol
 abbrev pub images_at : List ℕ → WindowPlace → List ℕ → ℕ → ℕ
@@ -37,19 +37,17 @@ found_records text v pattern = Found v.row v.column ∷ pairs_of (images_at text
 
 -- a window that the pattern does not match
 pub record Unmatched (text : List ℕ) (v : WindowPlace) (pattern : List ℕ) : Type 0 where
-  pub placed : Placed text v
   pub small : SmallPlace v
   pub size : length pattern ≡ cell_count v
   pub none : answer_of (cell_of_pattern pattern) (window_of text v) (cell_count v) ≡ matched → ⊥
 
--- a window with its flag, and the tables that its pairs are read by
-pub record Answered (text : List ℕ) (v : WindowPlace) (pattern : List ℕ) (flag : ℕ) (listed offsets : List ℕ)
+-- a window with its flag, and the table that its pairs are read by
+pub record Answered (text : List ℕ) (v : WindowPlace) (pattern : List ℕ) (flag : ℕ) (pairs : List PairPlace)
     : Type 0 where
-  pub placed : Placed text v
   pub small : SmallPlace v
   pub size : length pattern ≡ cell_count v
   pub flag_is : flag ≡ pick (is_match (answer_of (cell_of_pattern pattern) (window_of text v) (cell_count v))) 1 0
-  pub tables : PairTables pattern v.columns v.width listed offsets
+  pub pairs_are : pairs ≡ pair_places pattern v.columns v.width
 
 -- ---- a found window
 
@@ -85,7 +83,8 @@ module _ (text : List ℕ) (v : WindowPlace) (pattern : List ℕ) where
 
   -- the flag says which
   pub flag_matched :
-      (flag : ℕ) → flag ≡ pick (is_match (answer_of (cell_of_pattern pattern) (window_of text v) (cell_count v))) 1 0 → flag ≡ 1
+      (flag : ℕ) → flag ≡ pick (is_match (answer_of (cell_of_pattern pattern) (window_of text v) (cell_count v))) 1 0
+      → flag ≡ 1
       → answer_of (cell_of_pattern pattern) (window_of text v) (cell_count v) ≡ matched
   flag_matched flag e d = go (answer_of (cell_of_pattern pattern) (window_of text v) (cell_count v)) (sym e ∙ d)
     where

@@ -1,8 +1,10 @@
 -- The first place of each of the pattern's symbols, and how far it lies from a window's corner in the text: the same
 -- for every window, so that a found window's pairs are read without a division.
 -- Assumes nothing.
-use Rattle.std.specs.Prelude.{◌≡◌, Bool, true, List, ℕ, ◌+◌, ◌*◌, ◌/◌, ◌%◌, ◌≤◌, ◌<◌, eqb, length, get_or, set}
-use Rattle.std.proofs.Common.{sym, ◌∙◌, ap, add-mul, arith, length-set, get_or-set_same, get_or-set_other}
+use Rattle.std.specs.Prelude.{◌≡◌, refl, Bool, true, List, [], ◌∷◌, ◌++◌, ℕ, ◌+◌, ◌*◌, ◌/◌, ◌%◌, ◌≤◌, ◌<◌, eqb, length}
+use Rattle.std.specs.Prelude.{get_or, set, take, map}
+use Rattle.std.proofs.Common.{sym, ◌∙◌, ap, add-mul, add-one, arith, take-suc, take_all}
+use Rattle.std.proofs.lemmas.List.{get_or-map, length-map, map-append, take_more_set}
 use Rattle.theory.specs.Test.{Tested, holds, fails}
 use Rattle.theory.specs.Test.Laws.{eq_tested, lt_tested, says_true, is_true, true_false}
 use Rattle.theory.specs.First.{first}
@@ -15,8 +17,10 @@ use Rattle.cells.specs.Windows.{offset_of}
 use Rattle.cells.specs.Windows.Laws.{window_at_lem}
 use Rattle.cells.specs.declared.windows.WindowPlace.{WindowPlace}
 use Rattle.prefixes.specs.State.{FirstPlaces}
-use Rattle.matching.specs.Compare.{cell_of_pattern, window_of, cell_count, Placed}
-use Rattle.matching.specs.Compare.Positions.{position_inside}
+use Rattle.entries.specs.declared.offsets.PairPlace.{PairPlace}
+use Rattle.matching.specs.Compare.{cell_of_pattern}
+use Rattle.view.specs.Places.{window_of, cell_count, Placed}
+use Rattle.view.specs.Places.Laws.{position_inside}
 
 -- the first place of a symbol in the pattern: the least position that has it
 unfoldable pub first_place : List ℕ → ℕ → ℕ
@@ -26,16 +30,18 @@ first_place pattern a = first (λ p. eqb (cell_of_pattern pattern p) a) (length 
 abbrev pub cell_place : ℕ → ℕ → ℕ → ℕ → ℕ → ℕ
 cell_place columns width row column p = (row + p / width) * columns + column + p % width
 
--- what a found window's pairs are read by, in a text of that many columns and windows of that width
-pub record PairTables (pattern : List ℕ) (columns width : ℕ) (listed offsets : List ℕ) : Type 0 where
-  -- the pattern's symbols, rising
-  pub symbols_are : listed ≡ symbols_of pattern
-  -- the table has an entry for each of them
-  pub long : length offsets ≡ 256
-  -- it leads from the corner of any window to the window's cell at the symbol's first place
-  pub offsets_lead : (k : ℕ) → k < length listed → (row column : ℕ)
-      → row * columns + column + get_or offsets k 0
-      ≡ cell_place columns width row column (first_place pattern (get_or listed k 0))
+-- what a pair of a found window is read by, in a text of that many columns and windows of that width: the symbol, and
+-- the offset of its first place
+abbrev pub pair_place : List ℕ → ℕ → ℕ → ℕ → PairPlace
+pair_place pattern columns width a = record { symbol = a; offset = offset_of columns width (first_place pattern a) }
+
+-- one for each of the pattern's symbols, rising
+unfoldable pub pair_places : List ℕ → ℕ → ℕ → List PairPlace
+pair_places pattern columns width = map (pair_place pattern columns width) (symbols_of pattern)
+
+-- an entry of the table before anything stands in it
+abbrev pub no_pair : PairPlace
+no_pair = record { symbol = 0; offset = 0 }
 
 -- ---- first places
 
@@ -77,63 +83,71 @@ place_listed pattern l f a t =
     let same : cell_of_pattern pattern (get_or l a 0) ≡ a = rw s.1 at e.1 in
     omega (arith, le, place_least pattern a (get_or l a 0) same)
 
--- ---- the table of offsets
-
--- the first k of the offsets are there
-pub record OffsetsTo (pattern : List ℕ) (columns width : ℕ) (listed : List ℕ) (k : ℕ) (offsets : List ℕ) : Type 0 where
-  pub long : length offsets ≡ 256
-  pub lead : (j : ℕ) → j < k → (row column : ℕ)
-      → row * columns + column + get_or offsets j 0
-      ≡ cell_place columns width row column (first_place pattern (get_or listed j 0))
+-- ---- the table of pairs
 
 module _ (pattern : List ℕ) (columns width : ℕ) (listed : List ℕ) where
-  pub offsets_none : (offsets : List ℕ) → length offsets ≡ 256 → OffsetsTo pattern columns width listed 0 offsets
-  offsets_none offsets e = record { long = e; lead = λ j h. absurd (none j h) }
-    where
-      none : (j : ℕ) → j < 0 → ⊥
-      none j h = omega arith
+  -- the first k of the pairs are there
+  abbrev pub PairsTo : ℕ → List PairPlace → Type 0
+  PairsTo k pairs = take k pairs ≡ map (pair_place pattern columns width) (take k listed)
 
   -- one more: p is the symbol's first place
-  pub offsets_more : (offsets : List ℕ) (k p x : ℕ) → OffsetsTo pattern columns width listed k offsets → k < 256
+  pub pairs_more : (pairs : List PairPlace) (k p x : ℕ) → k < length listed → k < length pairs → PairsTo k pairs
       → p ≡ first_place pattern (get_or listed k 0) → x ≡ offset_of columns width p
-      → OffsetsTo pattern columns width listed (k + 1) (set offsets k x)
-  offsets_more offsets k p x o h e d =
-      record { long = rw length-set o.long; lead = λ j l. go j l (eq_tested j k) }
-    where
-      here : (row column : ℕ) → row * columns + column + x ≡ cell_place columns width row column p
-      here row column = omega (arith, d, add-mul row (p / width) columns)
+      → PairsTo (k + 1) (set pairs k (record { symbol = get_or listed k 0; offset = x }))
+  pairs_more pairs k p x h l o e d =
+      let a = get_or listed k 0 in
+      rw (take_more_set pairs k _ l, add-one k, take-suc listed k 0 h, map-append, d, e)
+      (ap (λ (ps : List PairPlace). ps ++ (pair_place pattern columns width a ∷ [])) o)
 
-      go : (j : ℕ) {b : Bool} → j < k + 1 → Tested (j ≡ k) b → (row column : ℕ)
-          → row * columns + column + get_or (set offsets k x) j 0
-          ≡ cell_place columns width row column (first_place pattern (get_or listed j 0))
-      go j l (holds y) row column =
-          rw (y, get_or-set_same offsets k x 0 (omega (arith, o.long)), ← e) (here row column)
-      go j l (fails y) row column = rw (get_or-set_other offsets k j x 0 y) (o.lead j (omega arith) row column)
+  pub pairs_all : (pairs : List PairPlace) (k : ℕ) → listed ≡ symbols_of pattern → k ≡ length listed
+      → PairsTo k pairs → take (length listed) pairs ≡ pair_places pattern columns width
+  unfolding pair_places
+  pairs_all pairs k e h o =
+      rw (← h)
+      (o ∙ ap (map (pair_place pattern columns width)) (take_all k listed (omega (arith, h)) ∙ e))
 
-  pub offsets_all : (offsets : List ℕ) (k : ℕ) → listed ≡ symbols_of pattern
-      → OffsetsTo pattern columns width listed k offsets → length listed ≤ k
-      → PairTables pattern columns width listed offsets
-  offsets_all offsets k e o h =
-      record { symbols_are = e; long = o.long; offsets_lead = λ j l. o.lead j (omega arith) }
+-- as many as the pattern has symbols
+pub pairs_many : (pattern : List ℕ) (columns width : ℕ) (pairs : List PairPlace)
+    → pairs ≡ pair_places pattern columns width → length pairs ≡ length (symbols_of pattern)
+unfolding pair_places
+pairs_many pattern columns width pairs t = rw (t, length-map) refl
 
--- ---- a pair that is read by the tables
+-- ---- a pair that is read by the table
 
-module _ (text : List ℕ) (v : WindowPlace) (pattern listed offsets : List ℕ)
-    (t : PairTables pattern v.columns v.width listed offsets) (k : ℕ) (h : k < length listed) where
-  -- its cell lies in the text
+module _ (text : List ℕ) (v : WindowPlace) (pattern : List ℕ) (pairs : List PairPlace)
+    (t : pairs ≡ pair_places pattern v.columns v.width) (k : ℕ) (h : k < length pairs) where
+  abbrev symbol : ℕ
+  symbol = get_or (symbols_of pattern) k 0
+
+  pub pair_at : get_or pairs k no_pair ≡ pair_place pattern v.columns v.width symbol
+  unfolding pair_places
+  pair_at =
+      rw t
+      (get_or-map (pair_place pattern v.columns v.width) (symbols_of pattern) k 0 no_pair
+      (omega (arith, pairs_many _ _ _ _ t)))
+
+  -- the offset leads from the window's corner to its cell at the symbol's first place
+  leads : v.row * v.columns + v.column + (get_or pairs k no_pair).offset
+      ≡ cell_place v.columns v.width v.row v.column (first_place pattern symbol)
+  leads =
+      rw pair_at
+      (omega (arith, add-mul v.row (first_place pattern symbol / v.width) v.columns))
+
+  -- which lies in the text
   pub pair_inside : Placed text v → length pattern ≡ cell_count v
-      → v.row * v.columns + v.column + get_or offsets k 0 < length text
+      → v.row * v.columns + v.column + (get_or pairs k no_pair).offset < length text
   pair_inside placed size =
-      let s = place_stands pattern (get_or listed k 0) (listed_symbol pattern listed t.symbols_are k h).1 in
+      let here : k < length (symbols_of pattern) = omega (arith, pairs_many _ _ _ _ t) in
+      let s = place_stands pattern symbol (listed_symbol pattern (symbols_of pattern) refl k here).1 in
       omega (
         arith,
-        t.offsets_lead k h v.row v.column,
-        (position_inside text v placed (first_place pattern (get_or listed k 0)) (omega (arith, s.0, size))).within,
+        leads,
+        position_inside text v placed (first_place pattern symbol) (omega (arith, s.0, size)),
       )
 
   -- and has the window's symbol at the first place
-  pub offset_reads : get_or text (v.row * v.columns + v.column + get_or offsets k 0) 0
-      ≡ window_of text v (first_place pattern (get_or listed k 0))
-  offset_reads =
-      ap (λ (i : ℕ). get_or text i 0) (t.offsets_lead k h v.row v.column)
-      ∙ sym (window_at_lem text v.columns v.row v.column v.width (first_place pattern (get_or listed k 0)))
+  pub pair_reads : get_or text (v.row * v.columns + v.column + (get_or pairs k no_pair).offset) 0
+      ≡ window_of text v (first_place pattern symbol)
+  pair_reads =
+      ap (λ (i : ℕ). get_or text i 0) leads
+      ∙ sym (window_at_lem text v.columns v.row v.column v.width (first_place pattern symbol))

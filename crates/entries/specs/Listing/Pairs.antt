@@ -1,10 +1,7 @@
 -- The pairs of a found window, symbol by symbol down a list: the next pair, and that none is left at the list's end.
 -- Assumes nothing.
-use Rattle.std.specs.Prelude.{◌≡◌, refl, ℕ, suc, ◌+◌, ◌*◌, ◌≤◌, ◌<◌, length, get_or, drop}
-use Rattle.std.proofs.Common.{◌∙◌, drop_of_length-le, drop-cons}
-use Rattle.std.proofs.Math.Path.{ap}
-use mathlib.Core.List.{List, [], ◌++◌}
-use Rattle.std.proofs.Math.Numerals.{add-one}
+use Rattle.std.specs.Prelude.{◌≡◌, refl, List, [], ◌++◌, ℕ, suc, ◌+◌, ◌*◌, ◌≤◌, ◌<◌, length, get_or, drop}
+use Rattle.std.proofs.Common.{ap, ◌∙◌, add-one, drop_of_length-le, drop-cons}
 use Rattle.sets.specs.Symbols.{symbols_of}
 use Rattle.cells.specs.declared.windows.WindowPlace.{WindowPlace}
 use Rattle.theory.specs.Written.{written}
@@ -13,7 +10,6 @@ use Rattle.theory.specs.Pieces.{Left, left_room, left_less}
 use Rattle.listing.specs.Entries.{bytes_all, pairs_of}
 use Rattle.listing.specs.Entries.Laws.{bytes_none, bytes_cons, pairs_none, pairs_cons, length_pairs}
 use Rattle.listing.specs.declared.records.Record.TheVariants.{Found, Pair}
-use Rattle.entries.specs.Listing.Offsets.{PairTables, offset_reads}
 use Rattle.entries.specs.Listing.Entries.{images_at, found_records}
 
 -- the bytes of the pairs of listed symbols, each with its image
@@ -24,17 +20,6 @@ pair_bytes f xs = bytes_all (pairs_of f xs)
 pub pairs_long : (f : ℕ → ℕ) (xs : List ℕ) → length (pair_bytes f xs) ≡ 3 * length xs
 unfolding pair_bytes
 pairs_long f xs = length_pairs f xs
-
--- f gives each listed symbol what the text has at its offset from a corner
-pub record ReadAs (text : List ℕ) (corner : ℕ) (listed offsets : List ℕ) (f : ℕ → ℕ) : Type 0 where
-  pub each : (k : ℕ) → k < length listed → get_or text (corner + get_or offsets k 0) 0 ≡ f (get_or listed k 0)
-
--- by the tables of a pattern that is the window's symbol at the first place
-pub tables_read : (text : List ℕ) (v : WindowPlace) (pattern listed offsets : List ℕ)
-    → PairTables pattern v.columns v.width listed offsets
-    → ReadAs text (v.row * v.columns + v.column) listed offsets (images_at text v pattern)
-tables_read text v pattern listed offsets t =
-    record { each = λ k h. offset_reads text v pattern listed offsets t k h }
 
 -- a found window's bytes
 pub found_bytes : (text : List ℕ) (v : WindowPlace) (pattern : List ℕ)
@@ -73,4 +58,5 @@ module _ (f : ℕ → ℕ) (xs : List ℕ) (k : ℕ) where
   pub pairs_over : length xs ≤ k → pair_bytes f (drop k xs) ≡ []
   unfolding pair_bytes
   pairs_over h =
-      ap (λ (ys : List ℕ). bytes_all (pairs_of f ys)) (drop_of_length-le xs h) ∙ ap bytes_all (pairs_none f) ∙ bytes_none
+      ap (λ (ys : List ℕ). bytes_all (pairs_of f ys)) (drop_of_length-le xs h)
+      ∙ ap bytes_all (pairs_none f) ∙ bytes_none

@@ -1,12 +1,11 @@
 -- The totals of a search from its flags: as many ones as windows that match, as many others as windows that do not, and
 -- together all windows.
 -- Assumes nothing.
-use Rattle.std.specs.Prelude.{◌≡◌, Bool, true, false, List, ℕ, ◌+◌, ◌-◌, ◌*◌, ◌≤◌, ◌<◌, get_or}
-use Rattle.std.proofs.Math.Path.{refl, ap}
-use Rattle.std.proofs.Math.Bool.{not}
-use Rattle.std.proofs.Common.{add-one, arith}
-use Rattle.std.proofs.Math.Dec.{eqb}
-use borrow.Author.Tests.{eq-eqb, ne_eqb}
+use Rattle.std.specs.Prelude.{◌≡◌, refl, Bool, true, false, not, List, ℕ}
+use Rattle.std.specs.Prelude.{zero, suc, ◌+◌, ◌-◌, ◌*◌, ◌≤◌, ◌<◌, eqb, length}
+use Rattle.std.specs.Prelude.{get_or, take, count_by}
+use Rattle.std.proofs.Common.{ap, ◌∙◌, add-one, eq-eqb, ne_eqb, arith}
+use Rattle.std.proofs.lemmas.List.Sums.{count_by_more_yes, count_by_more_no}
 use Rattle.theory.specs.Test.{pick}
 use Rattle.theory.specs.Count.{count}
 use Rattle.theory.specs.Count.Laws.{count_ext, count_le, count_not}
@@ -17,7 +16,12 @@ use Rattle.shapes.specs.declared.shapes.Shape.{Shape}
 use Rattle.matching.specs.Questions.{answer_at}
 use Rattle.flags.specs.Flags.{window_flag}
 use Rattle.flags.specs.Flags.Strips.{flag_of}
-use Rattle.entries.specs.Listing.{found_in, refused_in}
+use Rattle.entries.specs.Listing.{found_in, refused_in, needed_length}
+use Rattle.listing.specs.declared.totals.Totals.{Totals}
+
+-- what the windows of a search add up to
+abbrev pub totals_in : Question → Totals ℕ
+totals_in q = record { found = found_in q; refused = refused_in q; length = needed_length q }
 
 -- how many of the first n flags are 1
 unfoldable pub ones : List ℕ → ℕ → ℕ
@@ -30,17 +34,19 @@ others flags n = count (λ k. not (eqb (get_or flags k 0) 1)) n
 -- ---- flag by flag
 
 module _ (flags : List ℕ) where
-  pub ones_none : 0 ≡ ones flags 0
+  -- as a filter counts them
+  pub ones_counted : (n : ℕ) → n ≤ length flags → count_by (λ x. eqb x 1) (take n flags) ≡ ones flags n
   unfolding ones count
-  ones_none = refl
+  ones_counted zero h = refl
+  ones_counted (suc n) h = rw (← add-one n) (go _ refl (ones_counted n (omega arith)))
+    where
+      one : ℕ → Bool
+      one x = eqb x 1
 
-  pub ones_hit : (found k : ℕ) → found ≡ ones flags k → get_or flags k 0 ≡ 1 → found + 1 ≡ ones flags (k + 1)
-  unfolding ones count
-  ones_hit found k e h = rw (add-one k, eq-eqb (get_or flags k 0) 1 h) (ap (λ (n : ℕ). n + 1) e)
-
-  pub ones_miss : (found k : ℕ) → found ≡ ones flags k → (get_or flags k 0 ≡ 1 → ⊥) → found ≡ ones flags (k + 1)
-  unfolding ones count
-  ones_miss found k e h = rw (add-one k, ne_eqb (get_or flags k 0) 1 h) e
+      go : (b : Bool) → one (get_or flags n 0) ≡ b → count_by one (take n flags) ≡ ones flags n
+          → count_by one (take (n + 1) flags) ≡ pick (one (get_or flags n 0)) (ones flags n + 1) (ones flags n)
+      go true e below = rw e (count_by_more_yes one flags n 0 (omega arith) e ∙ ap (λ (m : ℕ). m + 1) below)
+      go false e below = rw e (count_by_more_no one flags n 0 (omega arith) e ∙ below)
 
   pub ones_le : (n : ℕ) → ones flags n ≤ n
   unfolding ones

@@ -1,9 +1,10 @@
 -- Document 004's flag is the flag: with equal counts and links that agree the pattern matches, by Observations 1 and 3
 -- (`flag_right`); and a flag is 1 exactly if the pattern matches.
 -- Assumes nothing.
-use Rattle.std.specs.Prelude.{◌≡◌, refl, Bool, true, false, List, ◌↔◌, ◌⊎◌, ℕ, ◌+◌, ◌-◌, ◌*◌, ◌≤◌, ◌<◌, eqb, length, drop, get_or}
-use Rattle.std.proofs.Common.{sym, ◌∙◌, subst, inl, inr, one-mul, add-mul, mul-le-mul_right, arith, length-append, length-drop, ne_eqb}
-use Rattle.std.proofs.Math.Path.{ap}
+use Rattle.std.specs.Prelude.{◌≡◌, refl, Bool, true, false, List, ◌↔◌, ◌⊎◌, ℕ, ◌+◌, ◌-◌, ◌*◌, ◌≤◌, ◌<◌, eqb}
+use Rattle.std.specs.Prelude.{length, drop, get_or}
+use Rattle.std.proofs.Common.{sym, ◌∙◌, ap, subst, inl, inr, add-mul, mul-le-mul_right, arith}
+use Rattle.std.proofs.Common.{length-append, length-drop, ne_eqb}
 use Rattle.std.proofs.Math.ListN.{get_or-append}
 use Rattle.theory.specs.Test.{pick, both, Tested, holds, fails}
 use Rattle.theory.specs.Test.Laws.{true_false, tested_same, tested_iff, eq_tested, lt_tested, both_tested}
@@ -142,7 +143,8 @@ pub flags_true_tested : (q : Question) (flags : List ℕ)
     → Tested ((k : ℕ) → k < windows_of q → get_or flags k 0 ≡ window_flag q k) (flags_truth q flags)
 unfolding flags_truth
 flags_true_tested q flags =
-    every_tested {Q = λ k. get_or flags k 0 ≡ window_flag q k} (λ k. eqb (get_or flags k 0) (window_flag q k)) (windows_of q)
+    every_tested {Q = λ k. get_or flags k 0 ≡ window_flag q k} (λ k. eqb (get_or flags k 0) (window_flag q k))
+    (windows_of q)
     (λ k. eq_tested (get_or flags k 0) (window_flag q k))
 
 -- ---- the flags that the first step leaves

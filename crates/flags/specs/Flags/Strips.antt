@@ -51,23 +51,6 @@ pub ready_still : {text pattern : List ℕ} {symbols : ℕ} {s : Shape} {counts 
     → links' ≡ links → flags' ≡ flags → Ready text pattern symbols s counts links' flags'
 ready_still r e f = rw (e, f) r
 
--- the same with a links buffer that just fits: where no links are made its length is no matter
-pub ready_fitting : {text pattern : List ℕ} {symbols : ℕ} {s : Shape} {counts : List ℕ} {links flags : ℕ}
-    → Ready text pattern symbols s counts links flags
-    → Ready text pattern symbols s counts (s.rows * s.width) flags
-ready_fitting r =
-    record {
-      room = record {
-        shape = r.room.shape;
-        size = r.room.size;
-        links_room = omega arith;
-        counts_room = r.room.counts_room;
-        flags_room = r.room.flags_room;
-      };
-      symbols_is = r.symbols_is;
-      counts_are = r.counts_are;
-    }
-
 -- the flag by the first end is the flag
 end_flag : (m w : ℕ → ℕ) (n : ℕ)
     → ◌≡◌ {A = ℕ} (pick (ltb (first_end m w n) n) 0 1) (pick (is_match (answer_of m w n)) 1 0)
@@ -90,8 +73,8 @@ end_flag m w n =
 module _ (text pattern : List ℕ) (s : Shape) (left : ℕ) (shape : ShapeOf s (length text)) (strip : left < across s)
     (size : length pattern ≡ s.height * s.width) (top : ℕ) where
   answer_here : ◌≡◌ {A = ℕ}
-      (pick (is_match (answer_of (cell_of_pattern pattern) (window_at text s.columns top left s.width) (length pattern))) 1
-      0)
+      (pick
+      (is_match (answer_of (cell_of_pattern pattern) (window_at text s.columns top left s.width) (length pattern))) 1 0)
       (flag_of text pattern s (top * across s + left))
   unfolding window_flag
   answer_here = rw (size, corner_row_lem (across s) top left strip, corner_column_lem (across s) top left strip)

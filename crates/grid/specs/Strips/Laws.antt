@@ -1,7 +1,7 @@
 -- What the links operation refuses and what it leaves, for its callers: the chain 2, 3, 4, 5, 9 taken apart from its
 -- front. And that a strip of a text of good shape is one.
 -- Assumes nothing.
-use Rattle.std.specs.Prelude.{◌≡◌, true, false, ℕ, ◌≤◌, ◌<◌, leb, length}
+use Rattle.std.specs.Prelude.{◌≡◌, true, false, ℕ, ◌≤◌, ◌<◌, leb, length, Result, Ok, Err, ⊤}
 use Rattle.std.proofs.Common.{sym, ◌∙◌, arith}
 use Rattle.std.proofs.Math.Path.{ap}
 use mathlib.Core.List.{List, [], ◌++◌}
@@ -18,8 +18,6 @@ use Rattle.shapes.specs.Shapes.{ShapeOf, across}
 use Rattle.shapes.specs.declared.shapes.Shape.{Shape}
 use Rattle.shapes.specs.Shapes.Laws.{corner_inside_lem}
 use Rattle.refusals.specs.declared.refusals.Refusal.{Refusal}
-use Rattle.refusals.specs.declared.refusals.Outcome.{Outcome}
-use Rattle.refusals.specs.declared.refusals.Outcome.TheVariants.{Accepted, Refused}
 use Rattle.grid.specs.Strips.{link, strip_symbols, strip_size, strip_sides, strip_inside, links_said, links_of, StripOf}
 use Rattle.grid.specs.Strips.{strip_from}
 use Rattle.grid.specs.declared.strips.Strip.{Strip}
@@ -47,7 +45,7 @@ strip_of s left cells of beside =
 
 module _ (text : List ℕ) (t : Strip) (room : ℕ) where
   -- 2, 3, 4 are refused as everywhere
-  pub links_stopped : (o : Outcome) (why : Refusal) → o ≡ Refused why → outcome_said o ≡ text_said text (strip_sides t)
+  pub links_stopped : (o : Result ⊤ Refusal) (why : Refusal) → o ≡ Err why → outcome_said o ≡ text_said text (strip_sides t)
       → outcome_said o ≡ links_said text t room
   unfolding links_said
   links_stopped o why e d = then_stopped o why (text_said text (strip_sides t)) _ e d
@@ -88,7 +86,7 @@ module _ (text : List ℕ) (t : Strip) (links : List ℕ) where
   links_after e = rw (e, length-table (link (strip_symbols text t)) (strip_size t))
 
   -- a refused call
-  pub links_kept : (o : Outcome) (why : Refusal) → o ≡ Refused why → outcome_said o ≡ links_said text t (length links)
+  pub links_kept : (o : Result ⊤ Refusal) (why : Refusal) → o ≡ Err why → outcome_said o ≡ links_said text t (length links)
       → filled o links ≡ links_of text t links
   unfolding links_of
   links_kept o why e d =
@@ -97,7 +95,7 @@ module _ (text : List ℕ) (t : Strip) (links : List ℕ) where
   -- an accepted one
   pub links_new : (r : List ℕ) → links_said text t (length links) ≡ accepts []
       → r ≡ table (link (strip_symbols text t)) (strip_size t) ++ drop (strip_size t) links
-      → filled Accepted r ≡ links_of text t links
+      → filled (Ok tt) r ≡ links_of text t links
   unfolding links_of
   links_new r z e =
       filled_new (links_said text t (length links)) (table (link (strip_symbols text t)) (strip_size t)) links r z

@@ -1,13 +1,12 @@
 -- How the code makes a strip's links, position by position and row by row: what its proofs cite.
 -- Assumes nothing.
-use Rattle.std.specs.Prelude.{◌≡◌, refl, List, [], ℕ, suc, ◌+◌, ◌-◌, ◌*◌, ◌/◌, ◌%◌, ◌≤◌, ◌<◌, eqb, length, get_or, set, replicate}
+use Rattle.std.specs.Prelude.{◌≡◌, Ok, refl, List, [], ℕ, suc, ◌+◌, ◌-◌, ◌*◌, ◌/◌, ◌%◌, ◌≤◌, ◌<◌, eqb, length, get_or, set, replicate}
 use Rattle.std.proofs.Common.{sym, ◌∙◌, ap, subst, add-zero, add-suc, suc-mul, mul-le-mul_right, mod-lt, div-lt_iff_lt-mul, div-add-mod', add-one, arith, length-set, get_or-set_same, get_or-set_other, ne_eqb}
 use Rattle.std.proofs.lemmas.List.{length-replicate, get_or-replicate}
 use Rattle.std.proofs.Math.Decide.{ℕ_discrete}
 use Rattle.theory.specs.Test.{pick}
 use Rattle.theory.specs.Store.{stored, stored_rows, Covers}
 use Rattle.theory.specs.Store.Laws.{stored_none, stored_more, rows_more, rows_all}
-use Rattle.refusals.specs.declared.refusals.Outcome.TheVariants.{Accepted}
 use Rattle.shapes.specs.Shapes.Laws.{product_le}
 use Rattle.cells.specs.Windows.{cells_of_row}
 use Rattle.cells.specs.Windows.Laws.{row_inside, length_row, row_at, window_strip}
@@ -158,7 +157,7 @@ positions_covered rows width pos =
 -- all rows linked are what an accepted call leaves
 pub links_written : (text : List ℕ) (t : Strip) (links r : List ℕ) → links_said text t (length links) ≡ accepts []
     → r ≡ stored_rows (link (strip_symbols text t)) (λ i j. i * t.width + j) t.rows t.width links
-    → filled Accepted r ≡ links_of text t links
+    → filled (Ok tt) r ≡ links_of text t links
 links_written text t links r z e =
     let p = links_passed text t (length links) [] z in
     links_new text t links r z

@@ -1,8 +1,9 @@
 -- Laws of inheritance: what is carried follows, and what follows is carried; the window below follows in the rows that
 -- are not new.
 -- Assumes nothing.
-use Rattle.std.specs.Prelude.{◌≡◌, Bool, false, List, ℕ, ◌+◌, ◌-◌, ◌*◌, ◌≤◌, ◌<◌, length, get_or, set, Option, Some, None}
-use Rattle.std.proofs.Common.{sym, ◌∙◌, ap, add-mul, zero-mul, mul-le-mul_right, arith, length-set, get_or-set_same, get_or-set_other}
+use Rattle.std.proofs.Common.{◌≡◌, Bool, false, List, ℕ, ◌+◌, ◌-◌, ◌*◌, ◌≤◌, ◌<◌, length, get_or, set, Option, Some}
+use Rattle.std.proofs.Common.{None, sym, ◌∙◌, ap, add-mul, zero-mul, mul-le-mul_right, arith, length-set}
+use Rattle.std.proofs.Common.{get_or-set_same, get_or-set_other}
 use Rattle.theory.specs.Test.{Tested, holds, fails}
 use Rattle.theory.specs.Test.Laws.{eq_tested}
 use Rattle.theory.specs.First.{First}
@@ -12,11 +13,14 @@ use Rattle.theory.specs.Match.Even.{even_if}
 use Rattle.cells.specs.Windows.{window_at, strip_at}
 use Rattle.cells.specs.Windows.Laws.{window_strip}
 use Rattle.cells.specs.declared.windows.WindowPlace.{WindowPlace}
-use Rattle.matching.specs.Compare.{cell_of_pattern, window_of, cell_count}
+use Rattle.matching.specs.Compare.{cell_of_pattern}
+use Rattle.view.specs.Places.{window_of, cell_count, corner_of}
 use Rattle.prefixes.specs.Prefixes.{suffix}
+use Rattle.rows.specs.declared.run.FirstEnd.{FirstEnd}
 use Rattle.sweep.specs.Sweep.{SidesOf, OwnMismatches}
 use Rattle.inheriting.specs.Carries.{Carried}
-use Rattle.inheriting.specs.Offsets.{corner_of, image_from_behind, Offsets}
+use Rattle.inheriting.specs.Offsets.{image_from_behind, first_place, Offsets}
+use Rattle.inheriting.specs.Offsets.Laws.{first_place_spec}
 use Rattle.cells.specs.Windows.Laws.{offset_at}
 use Rattle.inheriting.specs.Inheritance.{Follows, own_end_of, OwnEndsMade, Above}
 
@@ -37,17 +41,17 @@ follows_carried text v pattern offsets n leads le follows = record { carries = g
   where
     go : (p : ℕ) → p < n → image_from_behind text (corner_of v) offsets (get_or pattern p 0) ≡ window_of text v p
     go p h =
-        let q = get_or leads.first (get_or pattern p 0) 0 in
-        let f = leads.places.each p (omega arith) in
+        let q = first_place pattern (get_or pattern p 0) in
+        let f = first_place_spec pattern p (omega arith) in
         ap (λ (x : ℕ). get_or text (corner_of v + x) 0) (leads.lead p (omega arith))
         ∙ offset_at text v.columns v.row v.column v.width q
         ∙ follows.same q p (omega (arith, f.0)) h f.1
 
 -- own ends of all rows are those of the whole pattern, which has no other cells
-pub own_ends_all : (pattern : List ℕ) (height width : ℕ) (selves earlies : List ℕ) → SidesOf pattern height width
-    → OwnMismatches pattern width (height * width) height selves earlies → OwnEndsMade pattern height width selves
-own_ends_all pattern height width selves earlies sides owns =
-    record { long = owns.selves_long; each = λ k h. rw sides.cells (owns.each k h).end_is }
+pub own_ends_all : (pattern : List ℕ) (height width : ℕ) (own : List FirstEnd) → SidesOf pattern height width
+    → OwnMismatches pattern width (height * width) height own → OwnEndsMade pattern height width own
+own_ends_all pattern height width own sides owns =
+    record { long = owns.long; each = λ k h. rw sides.cells (owns.each k h).end_is }
 
 -- ---- the window below
 
@@ -101,7 +105,8 @@ module _ (text pattern : List ℕ) (v : WindowPlace) (above k end : ℕ) (some :
           → cell_of_pattern pattern q ≡ cell_of_pattern pattern p → window_of text v q ≡ window_of text v p
       go q p hq hp e =
           let a =
-          even_if (cell_of_pattern pattern) (suffix (cell_of_pattern pattern) (k * v.width)) (length pattern - k * v.width)
+          even_if (cell_of_pattern pattern) (suffix (cell_of_pattern pattern) (k * v.width)) (length pattern - k *
+          v.width)
           own_clear q p (omega (arith, rows_left)) (omega (arith, rows_left)) in
           window_lower q
           ∙ known.same (k * v.width + q) (k * v.width + p) (omega (arith, rows_left, rows_fit, size))
@@ -110,23 +115,23 @@ module _ (text pattern : List ℕ) (v : WindowPlace) (above k end : ℕ) (some :
 
 -- ---- from window to window
 
-module _ (text pattern : List ℕ) (columns height width : ℕ) (selves : List ℕ)
-    (tops : List (Option ℕ)) (here : Above text pattern columns height width selves tops) where
+module _ (text pattern : List ℕ) (columns height width : ℕ) (own : List FirstEnd)
+    (tops : List (Option ℕ)) (here : Above text pattern columns height width own tops) where
   -- the own ends are made
-  pub above_made : (made : List ℕ) → OwnEndsMade pattern height width made
+  pub above_made : (made : List FirstEnd) → OwnEndsMade pattern height width made
       → Above text pattern columns height width made tops
-  above_made made own =
+  above_made made ends =
       record {
         sides = here.sides;
         narrow = here.narrow;
         tops_are = here.tops_are;
-        owned = record { long = own.long; made = λ _. own };
+        owned = record { long = ends.long; made = λ _. ends };
       }
 
   -- one more window follows
   pub above_more : (row column : ℕ) → column < columns
       → Follows (cell_of_pattern pattern) (window_at text columns row column width) (height * width)
-      → Above text pattern columns height width selves (set tops column (Some row))
+      → Above text pattern columns height width own (set tops column (Some row))
   above_more row column inside follows =
       record {
         sides = here.sides;

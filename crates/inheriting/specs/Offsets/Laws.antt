@@ -1,11 +1,14 @@
 -- Laws of offsets: a table filled symbol by symbol has them all; they are small, and lead from a window's corner to
 -- cells of the text.
 -- Assumes nothing.
-use Rattle.std.specs.Prelude.{◌≡◌, refl, Bool, true, List, ℕ, ◌+◌, ◌*◌, ◌/◌, ◌≤◌, ◌<◌, length, get_or, set, Option, Some, None}
-use Rattle.std.proofs.Common.{sym, ◌∙◌, ap, add-mul, mul-le-mul, arith, length-set, get_or-set_same, get_or-set_other}
+use Rattle.std.proofs.Common.{◌≡◌, refl, Bool, true, List, ℕ, ◌+◌, ◌*◌, ◌/◌, ◌≤◌, ◌<◌, eqb, length, get_or, set, Option}
+use Rattle.std.proofs.Common.{Some, None, sym, ◌∙◌, ap, add-mul, mul-le-mul, arith, length-set, get_or-set_same}
+use Rattle.std.proofs.Common.{get_or-set_other}
 use Rattle.theory.specs.Bytes.{Bytes}
 use Rattle.theory.specs.Test.{Tested, holds, fails}
-use Rattle.theory.specs.Test.Laws.{eq_tested, is_true, says_true}
+use Rattle.theory.specs.Test.Laws.{eq_tested, is_true, says_true, true_false}
+use Rattle.theory.specs.First.{first}
+use Rattle.theory.specs.First.Laws.{first_spec}
 use Rattle.theory.specs.Count.Laws.{members_all}
 use Rattle.occurrences.specs.Distinct.{contains}
 use Rattle.occurrences.specs.Distinct.Sets.{contains_tested}
@@ -13,10 +16,11 @@ use Rattle.sets.specs.Symbols.{symbols_of}
 use Rattle.sets.specs.Symbols.Patterns.{listed_symbol}
 use Rattle.cells.specs.Windows.{offset_of}
 use Rattle.cells.specs.declared.windows.WindowPlace.{WindowPlace}
-use Rattle.matching.specs.Compare.{cell_of_pattern, cell_count, Placed}
-use Rattle.matching.specs.Compare.Positions.{position_inside}
+use Rattle.matching.specs.Compare.{cell_of_pattern}
+use Rattle.view.specs.Places.{cell_count, corner_of, Placed}
+use Rattle.view.specs.Places.Laws.{position_inside}
 use Rattle.prefixes.specs.State.{FirstPlaces}
-use Rattle.inheriting.specs.Offsets.{corner_of, Offsets, Prepared, Made, OffsetsUpTo, ImagesInside}
+use Rattle.inheriting.specs.Offsets.{first_place, Offsets, Prepared, Made, OffsetsUpTo, ImagesInside}
 
 -- the first place of a symbol that the pattern has lies in the pattern
 place_inside : (pattern first : List ℕ) (a : ℕ) → FirstPlaces (cell_of_pattern pattern) (length pattern) first
@@ -26,6 +30,30 @@ place_inside pattern first a places has =
     let f : get_or first (get_or pattern cell.0 0) 0 ≤ cell.0 = (places.each cell.0 cell.1).0 in
     let g : get_or first a 0 ≤ cell.0 = rw cell.2 at f in
     omega (arith, cell.1)
+
+-- the first place of a symbol that the pattern has
+pub first_place_spec : (pattern : List ℕ) (p : ℕ) → p < length pattern
+    → (first_place pattern (get_or pattern p 0) ≤ p)
+    × (get_or pattern (first_place pattern (get_or pattern p 0)) 0 ≡ get_or pattern p 0)
+unfolding first_place
+first_place_spec pattern p h =
+    let f = first_spec (λ k. eqb (get_or pattern k 0) (get_or pattern p 0)) (length pattern) in
+    let r = first (λ k. eqb (get_or pattern k 0) (get_or pattern p 0)) (length pattern) in
+    let over : p < r → ⊥ = λ l. true_false (is_true (eq_tested (get_or pattern p 0) (get_or pattern p 0)) refl)
+    (f.before p l) in
+    (omega (arith, over), says_true (eq_tested (get_or pattern r 0) (get_or pattern p 0)) (f.hit (omega (arith, over))))
+
+-- a table of first places has it
+pub first_place_is : (pattern first : List ℕ) (p : ℕ) → FirstPlaces (cell_of_pattern pattern) (length pattern) first
+    → p < length pattern → get_or first (get_or pattern p 0) 0 ≡ first_place pattern (get_or pattern p 0)
+first_place_is pattern first p places h =
+    let r = first_place pattern (get_or pattern p 0) in
+    let t = get_or first (get_or pattern p 0) 0 in
+    let s = first_place_spec pattern p h in
+    let c = places.each p h in
+    let up : t ≤ r = rw s.1 at (places.each r (omega (arith, s.0))).0 in
+    let down : r ≤ t = rw c.1 at (first_place_spec pattern t (omega (arith, c.0))).0 in
+    omega (arith, up, down)
 
 -- ---- the table is made
 
@@ -40,7 +68,8 @@ prepared_made pattern columns width offsets here =
     record { made = λ table e. let same : table ≡ here.table = cc (e, here.table_is) in rw same here.leads }
 
 -- where it is asked for, it is there
-pub made_some : (pattern : List ℕ) (columns width : ℕ) (offsets : Option (List ℕ)) → Prepared pattern columns width offsets
+pub made_some : (pattern : List ℕ) (columns width : ℕ) (offsets : Option (List ℕ))
+    → Prepared pattern columns width offsets
     → (offsets ≡ None → ⊥) → Made pattern columns width offsets
 made_some pattern columns width None here some = absurd (some refl)
 made_some pattern columns width (Some table) here some =
@@ -69,7 +98,8 @@ module _ (columns width : ℕ) (symbols first : List ℕ) where
       record { long = rw length-set here.long; each = λ j h. go j h (eq_tested (get_or symbols j 0) a) }
     where
       go : (j : ℕ) {t : Bool} → j < i + 1 → Tested (get_or symbols j 0 ≡ a) t
-          → get_or (set offsets a x) (get_or symbols j 0) 0 ≡ offset_of columns width (get_or first (get_or symbols j 0) 0)
+          → get_or (set offsets a x) (get_or symbols j 0) 0
+          ≡ offset_of columns width (get_or first (get_or symbols j 0) 0)
       go j h (holds d) = rw d (get_or-set_same offsets a x 0 (omega (arith, here.long)) ∙ e)
       go j h (fails d) =
           let other : j ≡ i → ⊥ = λ z. d (ap (λ (y : ℕ). get_or symbols y 0) z ∙ sym is) in
@@ -80,7 +110,10 @@ module _ (columns width : ℕ) (symbols first : List ℕ) where
       → FirstPlaces (cell_of_pattern pattern) (length pattern) first → length symbols ≤ i
       → OffsetsUpTo columns width symbols first i offsets → Offsets pattern columns width offsets
   offsets_to_all pattern i offsets bytes e places all here =
-      record { first = first; places = places; long = here.long; lead = go }
+      record {
+        long = here.long;
+        lead = λ p h. go p h ∙ ap (offset_of columns width) (first_place_is pattern first p places h);
+      }
     where
       go : (p : ℕ) → p < length pattern
           → get_or offsets (get_or pattern p 0) 0 ≡ offset_of columns width (get_or first (get_or pattern p 0) 0)
@@ -100,16 +133,21 @@ module _ (text : List ℕ) (v : WindowPlace) (pattern offsets : List ℕ) (place
   pub offset_inside : (a : ℕ) → contains pattern a ≡ true → corner_of v + get_or offsets a 0 < length text
   offset_inside a has =
       let cell = says_true (contains_tested pattern a) has in
-      let e : get_or offsets a 0 ≡ offset_of v.columns v.width (get_or leads.first a 0) =
+      let e : get_or offsets a 0 ≡ offset_of v.columns v.width (first_place pattern a) =
       rw cell.2 at (leads.lead cell.0 cell.1) in
-      let p = place_inside pattern leads.first a leads.places has in
-      let inside = position_inside text v placed (get_or leads.first a 0) (omega (arith, p, size)) in
-      omega (arith, e, inside.within, add-mul v.row (get_or leads.first a 0 / v.width) v.columns)
+      let p : first_place pattern a ≤ cell.0 = rw cell.2 at (first_place_spec pattern cell.0 cell.1).0 in
+      let inside = position_inside text v placed (first_place pattern a) (omega (arith, p, cell.1, size)) in
+      omega (arith, e, inside, add-mul v.row (first_place pattern a / v.width) v.columns)
 
   -- so do those of the listed symbols
-  pub inside_listed : (symbols : List ℕ) → symbols ≡ symbols_of pattern → ImagesInside text (corner_of v) offsets symbols
+  pub inside_listed : (symbols : List ℕ) → symbols ≡ symbols_of pattern
+      → ImagesInside text (corner_of v) offsets symbols
   inside_listed symbols e =
-      record { long = leads.long; each = λ i h. offset_inside (get_or symbols i 0) (listed_symbol pattern symbols e i h).1 }
+      record {
+        long = leads.long;
+        each = λ i h. offset_inside (get_or symbols i 0) (listed_symbol pattern symbols e i
+            h).1;
+      }
 
   -- and those of cells of the pattern
   pub inside_cells : (cells : List ℕ) (from n : ℕ) → length cells ≡ n → from + n ≤ length pattern

@@ -1,14 +1,11 @@
--- Laws of a run: the test of a position tells whether a mismatch ends there; a comparison begins, goes one position on
--- and ends; the next window is compared anew, inherits its end, or goes on where the last one ended.
+-- Laws of a run: the test of a position tells whether a mismatch ends there; a comparison goes one position on, or
+-- ends; the next window inherits its end, or is compared from where it is known to agree.
 -- Assumes nothing.
-use Rattle.std.specs.Prelude.{◌≡◌, Bool, true, false, List, ℕ, ◌+◌, ◌-◌, ◌*◌, ◌≤◌, ◌<◌, eqb, ltb, length}
-use Rattle.std.proofs.Common.{sym, ◌∙◌, add-mul, arith, eq-eqb, ne_eqb}
-use Rattle.std.proofs.Math.Path.{ap}
-use Rattle.std.proofs.Math.Bool.{not}
+use Rattle.std.specs.Prelude.{◌≡◌, Bool, true, false, List, ℕ, ◌+◌, ◌-◌, ◌*◌, ◌≤◌, ◌<◌, eqb, ltb, length, get_or, not}
+use Rattle.std.proofs.Common.{sym, ◌∙◌, ap, add-mul, arith, eq-eqb, ne_eqb}
 use Rattle.std.proofs.lemmas.Bool.{not-true, not-false}
-use Rattle.std.proofs.Math.ListN.{get_or}
-use Rattle.theory.specs.Test.{pick, Tested, holds, fails}
-use Rattle.theory.specs.Test.Laws.{eq_tested, lt_tested}
+use Rattle.theory.specs.Test.{pick, both, Tested, holds, fails}
+use Rattle.theory.specs.Test.Laws.{eq_tested, lt_tested, le_tested}
 use Rattle.theory.specs.First.Laws.{first_is}
 use Rattle.theory.specs.Match.{ends, first_end}
 use Rattle.grid.specs.Strips.{link}
@@ -18,8 +15,10 @@ use Rattle.prefixes.specs.Prefixes.Step.{near_decides, new_decides}
 use Rattle.prefixes.specs.Prefixes.Inheritance.{inherited, still_clear}
 use Rattle.prefixes.specs.State.{FirstPlaces}
 use Rattle.prefixes.specs.State.Tables.{first_at}
-use Rattle.linked.specs.declared.run.Run.{Run}
-use Rattle.linked.specs.Run.{ClearTo, LinksFrom, linked_test, CompareAt, Compared, EndsBy, WindowAsked}
+use Rattle.rows.specs.declared.run.FirstEnd.{FirstEnd}
+use Rattle.rows.specs.declared.run.Run.{Run}
+use Rattle.linked.specs.declared.run.RunEnd.{RunEnd}
+use Rattle.linked.specs.Run.{ClearTo, LinksFrom, linked_test, CompareAt, Compared, EndsBy, WindowAsked, end_at}
 use Rattle.linked.specs.Run.{WindowEnds, flag_by_end, WindowFlagged}
 
 -- ---- one position
@@ -54,22 +53,18 @@ module _ (pattern : List ℕ) (t : ℕ → ℕ) (i p : ℕ) (first : List ℕ) (
   pub linked_tells : linked_test pattern first p d (get_or pattern p 0)
       ≡ not (ends (λ k. get_or pattern k 0) (suffix t i) p)
   unfolding linked_test
-  linked_tells = go (lt_tested p d) (lt_tested 0 d)
+  linked_tells = go (lt_tested 0 d) (le_tested d p)
     where
-      go : {a b : Bool} → Tested (p < d) a → Tested (0 < d) b
-          → pick a (eqb (get_or first (get_or pattern p 0) 0) p)
-          (pick b (eqb (get_or pattern (p - d) 0) (get_or pattern p 0)) (eqb (get_or first (get_or pattern p 0) 0) p))
-          ≡ not (ends (λ k. get_or pattern k 0) (suffix t i) p)
-      go (holds h) b = by_first (outside h)
-      go (fails h) (holds pos) = by_link pos (omega arith)
-      go (fails h) (fails z) = by_first (nowhere (omega arith))
+      go : {a b : Bool} → Tested (0 < d) a → Tested (d ≤ p) b
+          → pick (both a b) (eqb (get_or pattern (p - d) 0) (get_or pattern p 0))
+          (eqb (get_or first (get_or pattern p 0) 0) p) ≡ not (ends (λ k. get_or pattern k 0) (suffix t i) p)
+      go (holds pos) (holds h) = by_link pos h
+      go (holds pos) (fails h) = by_first (outside (omega arith))
+      go (fails z) b = by_first (nowhere (omega arith))
 
 -- ---- one window, position after position
 
 module _ (pattern first links : List ℕ) (start from : ℕ) (asked : CompareAt pattern first links start from) where
-  pub compared_none : Compared pattern links start from from
-  compared_none = record { within = asked.within; clear = λ t l c. c }
-
   module _ (p : ℕ) (inside : p < length pattern) (here : Compared pattern links start from p) (d a : ℕ)
       (ed : d ≡ get_or links (start + p) 0) (ea : a ≡ get_or pattern p 0) (r : Bool)
       (er : r ≡ linked_test pattern first p d a) where
@@ -93,13 +88,6 @@ module _ (pattern first links : List ℕ) (start from : ℕ) (asked : CompareAt 
 
     pub compared_found : r ≡ false → EndsBy pattern links start from p
     compared_found e = record { compared = here; hit = λ t l c _. not-false _ (sym (tells t l c) ∙ e) }
-
-  pub compared_all : (p : ℕ) → length pattern ≤ p → Compared pattern links start from p
-      → EndsBy pattern links start from p
-  compared_all p h here = record { compared = here; hit = λ t l c d. absurd (over d) }
-    where
-      over : p < length pattern → ⊥
-      over d = omega arith
 
 -- ---- the flag by the count and the first end, by its two cases
 
@@ -128,88 +116,74 @@ compared_end pattern links start from p e t l c =
       hit = e.hit t l c;
     }))
 
-module _ (pattern first selves links : List ℕ) (width row reached top : ℕ)
-    (asked : WindowAsked pattern first selves links width row reached top) where
-  rows_apart : row * width + (top - row) * width ≡ top * width
+module _ (pattern first : List ℕ) (own : List FirstEnd) (links : List ℕ) (width : ℕ) (run : Run) (top : ℕ)
+    (asked : WindowAsked pattern first own links width run top) where
+  rows_apart : run.row * width + (top - run.row) * width ≡ top * width
   rows_apart =
-      let e : row + (top - row) ≡ top = omega (arith, asked.past) in
-      sym (add-mul row (top - row) width) ∙ ap (λ (x : ℕ). x * width) e
+      let e : run.row + (top - run.row) ≡ top = omega (arith, asked.past) in
+      sym (add-mul run.row (top - run.row) width) ∙ ap (λ (x : ℕ). x * width) e
 
-  asks : (from : ℕ) → from ≤ length pattern → CompareAt pattern first links (top * width) from
-  asks from h = record { some = asked.some; places = asked.places; room = asked.room; small = asked.small; within = h }
+  -- a window into which the last one reaches has the pattern's own end where that lies in what agreed, and agrees as
+  -- far where it does not
+  module _ (under : top * width < run.reached) where
+    own_is : end_at own (top - run.row)
+        ≡ first_end (λ p. get_or pattern p 0) (suffix (λ p. get_or pattern p 0) ((top - run.row) * width))
+        (length pattern - (top - run.row) * width)
+    own_is = asked.owns.each (top - run.row) (omega arith) (omega (arith, rows_apart, asked.fits))
 
-  -- a window that was compared, from where it was known to agree
-  window_compared : (from end : ℕ) → EndsBy pattern links (top * width) from end
-      → ((t : ℕ → ℕ) → ClearTo pattern t (row * width) reached
-      → ClearTo pattern t (top * width) (top * width + from))
-      → WindowEnds pattern links width row reached top
-      (record { row = top; reached = top * width + end; end = end })
-  window_compared from end e known =
-      record {
-        past = omega arith;
-        fits = omega (arith, e.compared.within);
-        clear = λ t l c. e.compared.clear t l (known t c);
-        end_is = λ t l c. compared_end pattern links (top * width) from end e t l (known t c);
-      }
-
-  -- nothing of it has been looked at
-  pub anew_asks : CompareAt pattern first links (top * width) 0
-  anew_asks = asks 0 (omega arith)
-
-  pub window_anew : (end : ℕ) → EndsBy pattern links (top * width) 0 end
-      → WindowEnds pattern links width row reached top
-      (record { row = top; reached = top * width + end; end = end })
-  window_anew end e = window_compared 0 end e (λ t c k h. absurd (over k h))
-    where
-      over : (k : ℕ) → top * width + k < top * width + 0 → ⊥
-      over k h = omega arith
-
-  module _ (under : top * width < reached) (own : ℕ) (eo : own ≡ get_or selves (top - row) 0) where
-    own_is : own ≡ first_end (λ p. get_or pattern p 0) (suffix (λ p. get_or pattern p 0) ((top - row) * width))
-        (length pattern - (top - row) * width)
-    own_is = eo ∙ asked.owns.each (top - row) (omega arith) (omega (arith, rows_apart, asked.fits))
-
-    fits : reached ≤ row * width + (top - row) * width + (length pattern - (top - row) * width)
+    fits : run.reached
+        ≤ run.row * width + (top - run.row) * width + (length pattern - (top - run.row) * width)
     fits = omega (arith, rows_apart, asked.fits)
 
-    -- its first end is the pattern's own
-    pub window_inherits : own < reached - top * width
-        → WindowEnds pattern links width row reached top (record { row = row; reached = reached; end = own })
-    window_inherits h =
+    inherits : end_at own (top - run.row) < run.reached - top * width → (t : ℕ → ℕ)
+        → ClearTo pattern t (run.row * width) run.reached
+        → end_at own (top - run.row) ≡ first_end (λ k. get_or pattern k 0) (suffix t (top * width)) (length pattern)
+    inherits h t c =
+        rw rows_apart at
+        (inherited (λ k. get_or pattern k 0) t (run.row * width) run.reached ((top - run.row) * width) c
+        (length pattern - (top - run.row) * width) _ own_is fits (length pattern) (omega (arith, rows_apart))
+        (omega (arith, rows_apart, asked.fits)))
+
+    still : run.reached - top * width ≤ end_at own (top - run.row) → (t : ℕ → ℕ)
+        → ClearTo pattern t (run.row * width) run.reached → ClearTo pattern t (top * width) run.reached
+    still h t c =
+        rw rows_apart at
+        (still_clear (λ k. get_or pattern k 0) t (run.row * width) run.reached ((top - run.row) * width) c
+        (length pattern - (top - run.row) * width) _ own_is fits (omega (arith, rows_apart)))
+
+  -- its first end is the pattern's own
+  pub window_inherits : end_at own (top - run.row) < run.reached - top * width
+      → WindowEnds pattern links width run top (record { run = run; end = end_at own (top - run.row) })
+  window_inherits h =
+      record {
+        past = asked.past;
+        fits = asked.fits;
+        clear = λ t l c. c;
+        end_is = λ t l c. inherits (omega arith) h t c;
+      }
+
+  -- else it is compared from where it is known to agree
+  module _ (h : run.reached - top * width ≤ end_at own (top - run.row)) where
+    pub window_onward : (end : ℕ) → EndsBy pattern links (top * width) (run.reached - top * width) end
+        → WindowEnds pattern links width run top
+        (record { run = record { row = top; reached = top * width + end }; end = end })
+    window_onward end e =
         record {
-          past = asked.past;
-          fits = asked.fits;
-          clear = λ t l c. c;
-          end_is = λ t l c.
-              rw rows_apart at
-              (inherited (λ k. get_or pattern k 0) t (row * width) reached ((top - row) * width) c
-              (length pattern - (top - row) * width) own own_is fits (length pattern) (omega (arith, rows_apart))
-              (omega (arith, rows_apart, asked.fits)));
+          past = omega arith;
+          fits = omega (arith, e.compared.within);
+          clear = λ t l c. e.compared.clear t l (known t c);
+          end_is = λ t l c. compared_end pattern links (top * width) _ end e t l (known t c);
         }
-
-    module _ (h : reached - top * width ≤ own) where
-      pub onward_asks : CompareAt pattern first links (top * width) (reached - top * width)
-      onward_asks = asks (reached - top * width) (omega (arith, rows_apart, asked.fits))
-
-      still : (t : ℕ → ℕ) → ClearTo pattern t (row * width) reached → ClearTo pattern t (top * width) reached
-      still t c =
-          rw rows_apart at
-          (still_clear (λ k. get_or pattern k 0) t (row * width) reached ((top - row) * width) c
-          (length pattern - (top - row) * width) own own_is fits (omega (arith, rows_apart)))
-
-      -- what was looked at of it agrees
-      pub window_onward : (end : ℕ) → EndsBy pattern links (top * width) (reached - top * width) end
-          → WindowEnds pattern links width row reached top
-          (record { row = top; reached = top * width + end; end = end })
-      window_onward end e =
-          window_compared (reached - top * width) end e (λ t c k l. still t c k (omega arith))
+      where
+        known : (t : ℕ → ℕ) → ClearTo pattern t (run.row * width) run.reached
+            → ClearTo pattern t (top * width) (top * width + (run.reached - top * width))
+        known t c k l = still (omega arith) h t c k (omega arith)
 
   -- ---- its flag
 
   module _ (symbols count : ℕ) where
     pub marked_skipped : (count ≡ symbols → ⊥)
-        → WindowFlagged pattern symbols count links width row reached top
-        (record { row = row; reached = reached; flag = 0 })
+        → WindowFlagged pattern symbols count links width run top (record { run = run; flag = 0 })
     unfolding flag_by_end
     marked_skipped h =
         record {
@@ -219,10 +193,9 @@ module _ (pattern first selves links : List ℕ) (width row reached top : ℕ)
           flag_is = λ t l c. rw (ne_eqb count symbols h);
         }
 
-    pub marked_compared : count ≡ symbols → (r : Run) → WindowEnds pattern links width row reached top r → (v : ℕ)
+    pub marked_compared : count ≡ symbols → (r : RunEnd) → WindowEnds pattern links width run top r → (v : ℕ)
         → v ≡ pick (ltb r.end (length pattern)) 0 1
-        → WindowFlagged pattern symbols count links width row reached top
-        (record { row = r.row; reached = r.reached; flag = v })
+        → WindowFlagged pattern symbols count links width run top (record { run = r.run; flag = v })
     unfolding flag_by_end
     marked_compared e r got v ev =
         record {

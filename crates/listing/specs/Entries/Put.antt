@@ -2,13 +2,10 @@
 -- right stays right, and a piece that is written is right. So when every piece has been written, the buffer begins with
 -- all of them joined.
 -- Assumes nothing.
-use Rattle.std.specs.Prelude.{◌≡◌, refl, Bool, ◌⊎◌, set, take}
-use Rattle.std.proofs.Math.Path.{sym, ap, subst}
-use Rattle.std.proofs.Common.{◌∙◌, ⊎_elim, zero-add, add-one, length-set, get_or-append-add, get_or-set_same, get_or-set_other, length-take-le}
-use mathlib.Core.List.{List, ◌++◌}
-use Prim.Native.Nat.{ℕ, zero, suc, ◌+◌, ◌-◌, ◌*◌, ◌≤◌, ◌<◌}
-use native.Mathlib.Omega.{arith}
-use Rattle.std.proofs.Math.ListN.{length, get_or, drop, length-append, get_or-append}
+use Rattle.std.proofs.Common.{◌≡◌, refl, Bool, ◌⊎◌, set, take, sym, ap, subst, ◌∙◌, ⊎_elim, zero-add, add-one}
+use Rattle.std.proofs.Common.{length-set, get_or-append-add, get_or-set_same, get_or-set_other, length-take-le, List}
+use Rattle.std.proofs.Common.{◌++◌, ℕ, zero, suc, ◌+◌, ◌-◌, ◌*◌, ◌≤◌, ◌<◌, arith, length, get_or, drop, length-append}
+use Rattle.std.proofs.Math.ListN.{get_or-append}
 use Rattle.std.proofs.Math.Seq.{get_or-drop, get_or-take, ext_get_or}
 use Rattle.theory.specs.Test.{Tested, holds, fails}
 use Rattle.theory.specs.Test.Laws.{lt_tested, le_tested, eq_tested}
@@ -52,7 +49,8 @@ module _ (l : List ℕ) (at : ℕ) (xs : List ℕ) (room : at + length xs ≤ le
   unfolding written
   written_in i h =
       get_or-append (take at l ++ xs) (drop (at + length xs) l) 0 (at + i) (omega (arith, both_front))
-      ∙ subst (λ (n : ℕ). get_or (take at l ++ xs) (n + i) 0 ≡ get_or xs i 0) front (get_or-append-add (take at l) xs i 0)
+      ∙ subst (λ (n : ℕ). get_or (take at l ++ xs) (n + i) 0
+      ≡ get_or xs i 0) front (get_or-append-add (take at l) xs i 0)
 
   pub written_behind : (w : ℕ) → at + length xs ≤ w → get_or (written l at xs) w 0 ≡ get_or l w 0
   unfolding written
@@ -209,7 +207,8 @@ module _ (piece : ℕ → List ℕ) where
               → RightCell piece size l w
           here j b w y z out d =
               ⊎_elim (λ a. p.stands j b a w y z)
-              (λ i. absurd (subst (λ (n : ℕ). start_of piece n ≤ w → w < start_of piece n + length (piece n) → ⊥) (sym i)
+              (λ i. absurd (subst (λ (n : ℕ). start_of piece n ≤ w → w < start_of piece n + length (piece n)
+              → ⊥) (sym i)
               out y z)) d
 
       -- all pieces written, in whatever order: all of them joined, and the rest as it was

@@ -2,7 +2,7 @@
 -- so what a part of a row ensures of every strip, it ensures of the window.
 -- Assumes nothing.
 use Rattle.std.specs.Prelude.{◌≡◌, refl, List, ℕ, ◌+◌, ◌≤◌, ◌<◌, length, get_or, replicate, take, drop}
-use Rattle.std.proofs.Common.{◌∙◌, ap, zero-add, arith}
+use Rattle.std.proofs.Common.{sym, ◌∙◌, ap, zero-add, arith}
 use Rattle.std.proofs.Math.Path.{fun_ext}
 use Rattle.theory.specs.Older.Laws.{older_zeros}
 use Rattle.theory.specs.Match.{first_end}
@@ -13,8 +13,9 @@ use Rattle.prefixes.specs.Prefixes.Ends.{ends_inside, ends_nowhere}
 use Rattle.prefixes.specs.State.{FirstPlaces, Swept, earlier_distance}
 use Rattle.prefixes.specs.State.Laws.{swept_none, swept_found, swept_all, earlier_tells}
 use Rattle.rows.specs.Rows.{PartAt, PartMeets, EndsPart}
-use Rattle.matching.specs.Compare.{cell_of_pattern, window_of, cell_count, Placed}
-use Rattle.matching.specs.Compare.Positions.{positions_small}
+use Rattle.matching.specs.Compare.{cell_of_pattern}
+use Rattle.view.specs.Places.{window_of, cell_count, Placed}
+use Rattle.view.specs.Places.Laws.{positions_small}
 use Rattle.matching.specs.Compare.Rows.{RowAt, row_start, rows_behind, cells_fit, read_first, read_below}
 use Rattle.matching.specs.Compare.Rows.{length_view_row, row_window}
 
@@ -66,26 +67,27 @@ module _ (text : List ℕ) (v : WindowPlace) (pattern : List ℕ) where
           (take v.width (drop from pattern)) er refl
 
       -- what is asked of the row
-      pub row_at : PartAt pattern row first last 0 from
+      pub row_at : PartAt pattern row 0 v.width first last 0 from
       row_at =
           let z : 0 + from ≡ from = zero-add from in
           record {
             places = places;
             older = rw z here.swept.lasts.older;
-            inside = omega (arith, row_long, row_within);
-            small = omega (arith, row_long, row_within, positions_small text v placed);
+            lies = omega (arith, row_long);
+            counted = omega (arith, row_within, positions_small text v placed);
+            inside = omega (arith, row_within);
+            small = omega (arith, row_within, positions_small text v placed);
           }
 
-      module _ (bytes : (k : ℕ) → get_or text k 0 < 256) (r : ℕ) (last' : List ℕ)
-          (ended : EndsPart pattern row last 0 from r last') where
-        meets : PartMeets (window_of text v) pattern row last 0 from
+      module _ (r : ℕ) (last' : List ℕ) (ended : EndsPart pattern row 0 v.width last 0 from r last') where
+        meets : PartMeets (window_of text v) pattern row 0 v.width last 0 from
         meets =
             let z : 0 + from ≡ from = zero-add from in
             record {
-              byte = window_byte text v bytes;
               row_is = λ j h.
-                  row_window v i (row_start v i) from inside here.place text pattern placed cells_are row
-                  (take v.width (drop from pattern)) er refl j (omega (arith, row_long))
+                  ap (λ (k : ℕ). get_or row k 0) (zero-add j)
+                  ∙ row_window v i (row_start v i) from inside here.place text pattern placed cells_are row
+                  (take v.width (drop from pattern)) er refl j h
                   ∙ ap (window_of text v) (omega arith);
               swept = rw z here.swept;
             }
@@ -96,7 +98,7 @@ module _ (text : List ℕ) (v : WindowPlace) (pattern : List ℕ) where
         -- one row more
         pub rows_more : v.width ≤ r → RowsAgree text v pattern (i + 1) (from + v.width) last'
         rows_more h =
-            let all : 0 + (from + r) ≡ from + v.width = omega (arith, ended.passed.within, row_long) in
+            let all : 0 + (from + r) ≡ from + v.width = omega (arith, ended.passed.within) in
             record { place = read_below v i from inside here.place; swept = rw all at agreed }
 
         -- what is read where a mismatch ends
@@ -108,17 +110,19 @@ module _ (text : List ℕ) (v : WindowPlace) (pattern : List ℕ) where
           found_near x = omega (arith, agreed.lasts.older.below x, row_within)
 
           -- a mismatch ends in this row
-          pub rows_found : (e : ℕ) → e ≡ earlier_distance pattern first 0 (get_or last' (get_or row r 0) 0) (from + r)
+          pub rows_found : (x e : ℕ) → x ≡ get_or row r 0 → x < 256
+              → e ≡ earlier_distance pattern first 0 (get_or last' x 0) (from + r)
               → EndIs (cell_of_pattern pattern) (window_of text v) (cell_count v) (from + r) e
-          rows_found e ee =
+          rows_found x e ex small ee =
               let w = suffix_whole (window_of text v) in
-              let hit = ended.hit (window_of text v) meets (omega (arith, row_long)) in
-              let x : get_or row r 0 ≡ window_of text v (0 + (from + r)) = meets.row_is r (omega (arith, row_long)) in
+              let hit = ended.hit (window_of text v) meets h in
+              let xt : x ≡ window_of text v (0 + (from + r))
+              = ex ∙ ap (λ (k : ℕ). get_or row k 0) (sym (zero-add r)) ∙ meets.row_is r h in
               let n : from + r < cell_count v = omega (arith, row_within) in
               let found : EndIs (cell_of_pattern pattern) (suffix (window_of text v) 0) (cell_count v) (from + r) e =
               ends_inside _ _ (cell_count v) (from + r) e
               (swept_found _ _ 0 (from + r) (cell_count v) last' agreed n hit) n
-              (ee ∙ rw x
+              (ee ∙ rw xt
               (earlier_tells pattern (window_of text v) (length pattern) 0 (from + r) first last'
-              (window_byte text v bytes _) found_inside places agreed hit)) in
+              (rw (← xt) small) found_inside places agreed hit)) in
               rw w at found

@@ -7,8 +7,8 @@ use Rattle.std.proofs.Common.{sym, ◌∙◌, ap, add_assoc, zero-mul, suc-mul, 
 use Rattle.std.proofs.Math.Nat.{add-sub_cancel_left}
 use Rattle.cells.specs.Windows.{cells_of_row}
 use Rattle.cells.specs.Windows.Laws.{row_cells_is, window_cell}
-use Rattle.view.specs.Inside.{RowInside}
-use Rattle.matching.specs.Compare.{cell_of_pattern, window_of, cell_count, Placed}
+use Rattle.matching.specs.Compare.{cell_of_pattern}
+use Rattle.view.specs.Places.{window_of, cell_count, Placed}
 use Rattle.cells.specs.declared.windows.WindowPlace.{WindowPlace}
 
 -- the part of a list that the code lends, from a place to n further on
@@ -59,14 +59,6 @@ module _ (v : WindowPlace) where
       cells_fit =
           let down : (i + 1) * v.width ≤ v.height * v.width = mul-le-mul_right v.width (omega arith) in
           omega (arith, next_from, here.from_is)
-
-      -- row i lies in the text
-      pub view_row_inside : RowInside text v.columns v.row v.column v.width i
-      view_row_inside =
-          record {
-            broad = omega (arith, placed.some, placed.across);
-            within = omega (arith, here.start_is, row_fits);
-          }
 
       module _ (row cells : List ℕ) (er : row ≡ take v.width (drop start text))
           (ep : cells ≡ take v.width (drop from pattern)) where

@@ -7,7 +7,7 @@ use Rattle.std.proofs.Math.Nat.{div-eq_of_lt}
 use Rattle.shapes.specs.Shapes.{corners, ShapeOf, across, down}
 use Rattle.shapes.specs.Shapes.Laws.{product_le}
 use Rattle.shapes.specs.declared.shapes.Shape.{Shape}
-use Rattle.matching.specs.Compare.{Placed}
+use Rattle.view.specs.Places.{Placed}
 use Rattle.matching.specs.Compare.Positions.{next_div, next_mod, below_div, below_mod}
 use Rattle.cells.specs.declared.windows.WindowPlace.{WindowPlace}
 use Rattle.matching.specs.Windows.{window_place, SmallPlace}

@@ -1,10 +1,9 @@
 -- One pair: each way that its reading ends, as a walk, and the marks after it. The marks say which of the window's
 -- symbols were given, so that the code's tests are those of `right_pair`.
 -- Assumes nothing.
-use Rattle.std.specs.Prelude.{◌≡◌, refl, Bool, true, false, List, [], ◌∷◌, ℕ, ◌+◌, ◌<◌, eqb, length, get_or, set}
-use Rattle.std.proofs.Common.{sym, ◌∙◌, arith, length-set, get_or-set_same, get_or-set_other, eq-eqb, ne_eqb}
-use Rattle.std.proofs.Math.Path.{ap}
-use Rattle.std.proofs.Math.Bool.{not}
+use Rattle.std.proofs.Common.{◌≡◌, refl, Bool, true, false, List, [], ◌∷◌, ℕ, ◌+◌, ◌<◌, eqb, length, get_or, set, sym}
+use Rattle.std.proofs.Common.{◌∙◌, arith, length-set, get_or-set_same, get_or-set_other, eq-eqb, ne_eqb, ap, not, Ok}
+use Rattle.std.proofs.Common.{Err}
 use Rattle.std.proofs.lemmas.Bool.{not-true}
 use Rattle.theory.specs.Older.{Older}
 use Rattle.theory.specs.Test.{pick, both, Tested, holds, fails}
@@ -19,7 +18,6 @@ use Rattle.listing.specs.declared.records.Record.{Record}
 use Rattle.listing.specs.declared.records.Record.TheVariants.{Pair}
 use Rattle.reading.specs.declared.reader.Cursor.{Cursor}
 use Rattle.reading.specs.Reader.{Read}
-use Rattle.std.specs.Prelude.{Ok, Err}
 use Rattle.claims.specs.Claims.{byte_at, stands, has_image_test, right_pair}
 use Rattle.pairs.specs.Pairs.{Marked, PairRead}
 use Rattle.claims.specs.Claims.Standing.{refused_stands, whole_byte, whole_stands, whole_other, whole_next}
@@ -169,7 +167,8 @@ module _ (m w : ℕ → ℕ) (n : ℕ) (listing : List ℕ) (a base at : ℕ) (g
         (λ h. true_false h.1.0 (ap (has_image_test m w n a) second_is ∙ sym i ∙ e)))
 
     -- that is right
-    pub pair_right : x ≡ a → y < 256 → (get_or marks y 0 ≡ base → ⊥) → (t : Bool) → t ≡ has_image_test m w n a y → t ≡ true
+    pub pair_right : x ≡ a → y < 256 → (get_or marks y 0 ≡ base → ⊥) → (t : Bool) → t ≡ has_image_test m w n a y
+        → t ≡ true
         → PairRead m w n listing a base at given (Ok next.at) (set marks y base)
     pair_right e l d t i f =
         rw (whole_next listing at (Pair x y) next reads) (read_right there y second_is l (first_is ∙ e) d (sym i ∙ f))

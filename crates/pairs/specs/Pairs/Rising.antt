@@ -1,10 +1,8 @@
 -- The pairs of a found window, one after another for the pattern's symbols, rising: what is read and what is left give
 -- the whole walk.
 -- Assumes nothing.
-use Rattle.std.specs.Prelude.{◌≡◌, refl, Bool, true, false, ℕ, ◌+◌, ◌≤◌, ◌<◌, length, get_or, drop}
-use Rattle.std.proofs.Math.Path.{sym, ap}
-use Rattle.std.proofs.Common.{◌∙◌, add-one, arith, drop_of_length-le, drop-cons}
-use mathlib.Core.List.{List, [], ◌∷◌}
+use Rattle.std.proofs.Common.{◌≡◌, refl, Bool, true, false, ℕ, ◌+◌, ◌≤◌, ◌<◌, length, get_or, drop, sym, ap, ◌∙◌}
+use Rattle.std.proofs.Common.{add-one, arith, drop_of_length-le, drop-cons, List, [], ◌∷◌, Ok, Err}
 use Rattle.theory.specs.Older.{Older}
 use Rattle.theory.specs.Test.{both}
 use Rattle.theory.specs.Test.Laws.{true_false}
@@ -13,7 +11,6 @@ use Rattle.refusals.specs.declared.refusals.Refusal.{Refusal}
 use Rattle.refusals.specs.declared.refusals.Refusal.TheVariants.{ListingForm, ListingFalse}
 use Rattle.claims.specs.Claims.{or_stop, byte_at, stands, right_pair, pairs_from}
 use Rattle.claims.specs.Claims.{Walk}
-use Rattle.std.specs.Prelude.{Ok, Err}
 use Rattle.pairs.specs.Pairs.{Marked, PairRead}
 use Rattle.pairs.specs.Pairs.Reading.{marked_none}
 use Rattle.claims.specs.Walks.{goes_not_stops}

@@ -1,70 +1,19 @@
--- Laws of a pattern as it lies: what its numbers say where it has a cell, that a quotient is a product's upper half,
--- that the code's place of a position is the right one and lies in the pattern, and that bytes stay bytes. A quotient
--- as a product is Granlund and Montgomery's theorem (1994): the product exceeds a multiple by too little to reach the
--- next.
+-- Laws of an enlargement: that a quotient is a product's upper half, that the code's place of a position is the right
+-- one and lies in the pattern, and that bytes stay bytes. A quotient as a product is Granlund and Montgomery's
+-- theorem (1994): the product exceeds a multiple by too little to reach the next.
 -- Assumes nothing.
-use Rattle.std.specs.Prelude.{◌≡◌, refl, Bool, true, false, List, [], ℕ, suc, ◌+◌, ◌-◌, ◌*◌, ◌/◌, ◌%◌, ◌≤◌, ◌<◌, eqb, length, get_or}
-use Rattle.std.proofs.Common.{sym, ◌∙◌, ap, subst, le_refl, le_trans, le_of_eq, lt_of_lt_of_le, lt_of_le_of_lt, lt-suc_self, add-lt-add_of_le_of_lt, mul_right_comm, mul_assoc, mul_comm, mul-add, add-mul, suc-mul, mul-le-mul, mul-le-mul_left, mul-le-mul_right, lt_of_mul-lt-mul_right, div-mul-le_self, div-lt_iff_lt-mul, div-add-mod', mod-lt, div-le_self, add-one, arith}
+use Rattle.std.specs.Prelude.{◌≡◌, Bool, List, ℕ, suc, ◌+◌, ◌-◌, ◌*◌, ◌/◌, ◌%◌, ◌≤◌, ◌<◌, length, get_or}
+use Rattle.std.proofs.Common.{sym, ◌∙◌, ap, subst, le_refl, le_trans, le_of_eq, lt_of_lt_of_le, lt_of_le_of_lt}
+use Rattle.std.proofs.Common.{lt-suc_self}
+use Rattle.std.proofs.Common.{add-lt-add_of_le_of_lt, mul_right_comm, mul_assoc, mul_comm, mul-add, add-mul, suc-mul}
+use Rattle.std.proofs.Common.{mul-le-mul, mul-le-mul_left, mul-le-mul_right, lt_of_mul-lt-mul_right, div-mul-le_self}
+use Rattle.std.proofs.Common.{div-lt_iff_lt-mul, div-add-mod', mod-lt, div-le_self, add-one, arith}
 use Rattle.std.proofs.Math.Nat.{div-eq_of_lt-le, div-div-eq-div-mul, mul-add-div_right, lt-div-mul-add}
 use Rattle.std.proofs.Math.ListN.{get_or-eq_default}
-use Rattle.theory.specs.Test.{pick, both, Tested, holds, fails}
-use Rattle.theory.specs.Test.Laws.{pick_true, pick_false, tested_iff, eq_tested, le_tested, both_tested}
-use Rattle.theory.specs.Test.Laws.{is_true, lt_tested}
-use Rattle.theory.specs.Table.{table}
+use Rattle.theory.specs.Test.{Tested, holds, fails}
+use Rattle.theory.specs.Test.Laws.{lt_tested}
 use Rattle.theory.specs.Table.Laws.{length-table, get_or-table}
-use Rattle.placed.specs.Placing.{index_at, inverse, Sound, sound, enlarged_by, placed}
-use Rattle.placed.specs.declared.placing.Placing.{Placing}
-
-pub sound_tested : (g : Placing) → Tested (Sound g) (sound g)
-unfolding sound
-sound_tested g =
-    tested_iff
-    (λ h. record {
-      scaled = h.0;
-      tall = h.1.0;
-      broad = h.1.1.0;
-      cells_is = h.1.1.1.0;
-      few = h.1.1.1.1.0;
-      by_scale = h.1.1.1.1.1.0;
-      by_width = h.1.1.1.1.1.1.0;
-      by_block = h.1.1.1.1.1.1.1;
-    })
-    (λ s. (s.scaled, (s.tall, (s.broad, (s.cells_is, (s.few, (s.by_scale, (s.by_width, s.by_block))))))))
-    (both_tested (le_tested 1 g.scale) (both_tested (le_tested 1 g.height) (both_tested (le_tested 1 g.width)
-    (both_tested (eq_tested g.cells (g.scale * g.height * (g.scale * g.width)))
-    (both_tested (le_tested g.cells 65025) (both_tested (eq_tested g.by_scale (inverse g.scale))
-    (both_tested (eq_tested g.by_width (inverse (g.scale * g.width)))
-    (eq_tested g.by_block (inverse (g.scale * g.width * g.scale))))))))))
-
--- what is known where the enlargement has a cell
-pub record Enlarged (pattern : List ℕ) (g : Placing) : Type 0 where
-  pub numbers : Sound g
-  pub sides : length pattern ≡ g.height * g.width
-  pub is : enlarged_by pattern g ≡ table (λ p. get_or pattern (index_at g.scale g.width p) 0) g.cells
-
-pub enlarged_known : (pattern : List ℕ) (g : Placing) → Sound g → length pattern ≡ g.height * g.width
-    → Enlarged pattern g
-unfolding enlarged_by
-enlarged_known pattern g s e =
-    record {
-      numbers = s;
-      sides = e;
-      is = pick_true _ _
-          (is_true (both_tested (sound_tested g) (eq_tested (length pattern) (g.height * g.width))) (s, e));
-    }
-
-pub enlarged_some : (pattern : List ℕ) (g : Placing) (p : ℕ) → p < length (enlarged_by pattern g) → Enlarged pattern g
-unfolding enlarged_by
-enlarged_some pattern g p h =
-    go _ refl (both_tested (sound_tested g) (eq_tested (length pattern) (g.height * g.width)))
-  where
-    go : (t : Bool) → both (sound g) (eqb (length pattern) (g.height * g.width)) ≡ t
-        → Tested (Sound g × (length pattern ≡ g.height * g.width)) t → Enlarged pattern g
-    go t e (holds x) = enlarged_known pattern g x.0 x.1
-    go t e (fails n) = absurd (none (subst (λ (l : List ℕ). p < length l) (pick_false _ _ e) h))
-      where
-        none : p < 0 → ⊥
-        none d = omega arith
+use Rattle.placed.specs.Placing.{index_at, inverse, enlarged, Sound}
 
 -- ---- a quotient as a product
 
@@ -127,70 +76,71 @@ quotient_along k width p pos =
         ∙ ap (λ (x : ℕ). x + p % (k * width))
         (ap (λ (x : ℕ). p / (k * width) * x) (mul_comm k width) ∙ sym (mul_assoc (p / (k * width)) width k))
 
-module _ (g : Placing) (s : Sound g) where
+module _ {k height width cells by_scale by_width by_block : ℕ}
+    (s : Sound k height width cells by_scale by_width by_block) where
   -- the enlargement's width, and the cells of as many rows as show one of the pattern's
   wide : ℕ
-  wide = g.scale * g.width
+  wide = k * width
 
-  pub wide_pos : 0 < g.scale * g.width
+  pub wide_pos : 0 < k * width
   wide_pos = mul-le-mul s.scaled s.broad
 
-  block_pos : 0 < g.scale * g.width * g.scale
+  block_pos : 0 < k * width * k
   block_pos = mul-le-mul wide_pos s.scaled
 
   -- height times the cells of a block are all cells
-  cells_blocks : g.cells ≡ g.height * (g.scale * g.width * g.scale)
-  cells_blocks = s.cells_is ∙ blocks g.scale g.height (g.scale * g.width)
+  cells_blocks : cells ≡ height * (k * width * k)
+  cells_blocks = s.cells_is ∙ blocks k height (k * width)
     where
-      blocks : (k h w : ℕ) → k * h * w ≡ h * (w * k)
-      blocks k h w = ap (λ (x : ℕ). x * w) (mul_comm k h) ∙ mul_assoc h k w ∙ ap (λ (x : ℕ). h * x) (mul_comm k w)
+      blocks : (a h w : ℕ) → a * h * w ≡ h * (w * a)
+      blocks a h w = ap (λ (x : ℕ). x * w) (mul_comm a h) ∙ mul_assoc h a w ∙ ap (λ (x : ℕ). h * x) (mul_comm a w)
 
-  block_le : g.scale * g.width * g.scale ≤ 65025
+  block_le : k * width * k ≤ 65025
   block_le =
       omega (
         arith,
         s.few,
         cells_blocks,
-        mul-le-mul_right (g.scale * g.width * g.scale) s.tall,
+        mul-le-mul_right (k * width * k) s.tall,
       )
 
-  pub wide_le : g.scale * g.width ≤ 65025
-  wide_le = omega (arith, block_le, mul-le-mul_left (g.scale * g.width) s.scaled)
+  pub wide_le : k * width ≤ 65025
+  wide_le = omega (arith, block_le, mul-le-mul_left (k * width) s.scaled)
 
-  pub scale_le : g.scale ≤ 65025
-  scale_le = omega (arith, wide_le, mul-le-mul_left g.scale s.broad)
+  pub scale_le : k ≤ 65025
+  scale_le = omega (arith, wide_le, mul-le-mul_left k s.broad)
 
-  module _ (p : ℕ) (h : p < g.cells) where
+  module _ (p : ℕ) (h : p < cells) where
     few : p ≤ 65025
     few = omega (arith, s.few)
 
-    pub row_is : p * g.by_width / 4294967296 ≡ p / (g.scale * g.width)
-    row_is = rw s.by_width (quotient_is (g.scale * g.width) p wide_pos wide_le few)
+    pub row_is : p * by_width / 4294967296 ≡ p / (k * width)
+    row_is = rw s.width_inverse (quotient_is (k * width) p wide_pos wide_le few)
 
-    pub shown_is : p * g.by_block / 4294967296 ≡ p / (g.scale * g.width) / g.scale
+    pub shown_is : p * by_block / 4294967296 ≡ p / (k * width) / k
     shown_is =
-        rw s.by_block (quotient_is (g.scale * g.width * g.scale) p block_pos block_le few)
-        ∙ sym (div-div-eq-div-mul p (g.scale * g.width) g.scale)
+        rw s.block_inverse (quotient_is (k * width * k) p block_pos block_le few)
+        ∙ sym (div-div-eq-div-mul p (k * width) k)
 
-    pub block_is : p * g.by_scale / 4294967296 ≡ p / g.scale
-    block_is = rw s.by_scale (quotient_is g.scale p s.scaled scale_le few)
+    pub block_is : p * by_scale / 4294967296 ≡ p / k
+    block_is = rw s.scale_inverse (quotient_is k p s.scaled scale_le few)
 
-    pub along_is : p * g.by_scale / 4294967296
-        ≡ p / (g.scale * g.width) * g.width + p % (g.scale * g.width) / g.scale
-    along_is = block_is ∙ quotient_along g.scale g.width p s.scaled
+    pub along_is : p * by_scale / 4294967296
+        ≡ p / (k * width) * width + p % (k * width) / k
+    along_is = block_is ∙ quotient_along k width p s.scaled
 
     -- the row that is shown is not below the row of the enlargement
-    pub shown_le : p * g.by_block / 4294967296 ≤ p * g.by_width / 4294967296
-    shown_le = rw (shown_is, row_is) (div-le_self (p / (g.scale * g.width)) g.scale)
+    pub shown_le : p * by_block / 4294967296 ≤ p * by_width / 4294967296
+    shown_le = rw (shown_is, row_is) (div-le_self (p / (k * width)) k)
 
     -- what the code finds is the place of the cell that is shown
-    pub place_is : p * g.by_scale / 4294967296
-        - g.width * (p * g.by_width / 4294967296 - p * g.by_block / 4294967296)
-        ≡ index_at g.scale g.width p
+    pub place_is : p * by_scale / 4294967296
+        - width * (p * by_width / 4294967296 - p * by_block / 4294967296)
+        ≡ index_at k width p
     place_is =
         rw (along_is, row_is, shown_is)
-        (less (p / (g.scale * g.width)) (p / (g.scale * g.width) / g.scale) g.width
-        (p % (g.scale * g.width) / g.scale) (div-le_self _ g.scale))
+        (less (p / (k * width)) (p / (k * width) / k) width
+        (p % (k * width) / k) (div-le_self _ k))
       where
         less : (i u c y : ℕ) → u ≤ i → i * c + y - c * (i - u) ≡ u * c + y
         less i u c y le =
@@ -202,12 +152,12 @@ module _ (g : Placing) (s : Sound g) where
             back i u le = omega arith
 
     -- and it does not go below 0
-    pub place_sub : g.width * (p * g.by_width / 4294967296 - p * g.by_block / 4294967296)
-        ≤ p * g.by_scale / 4294967296
+    pub place_sub : width * (p * by_width / 4294967296 - p * by_block / 4294967296)
+        ≤ p * by_scale / 4294967296
     place_sub =
         rw (along_is, row_is, shown_is)
-        (under (p / (g.scale * g.width)) (p / (g.scale * g.width) / g.scale) g.width
-        (p % (g.scale * g.width) / g.scale))
+        (under (p / (k * width)) (p / (k * width) / k) width
+        (p % (k * width) / k))
       where
         under : (i u c y : ℕ) → c * (i - u) ≤ i * c + y
         under i u c y =
@@ -216,71 +166,46 @@ module _ (g : Placing) (s : Sound g) where
             omega arith
 
     -- a cell of the pattern
-    pub place_inside : index_at g.scale g.width p < g.height * g.width
+    pub place_inside : index_at k width p < height * width
     place_inside =
-        let row_lt : p / (g.scale * g.width) / g.scale < g.height = rows in
-        let column_lt : p % (g.scale * g.width) / g.scale < g.width = columns in
-        let next : (p / (g.scale * g.width) / g.scale + 1) * g.width
-        ≡ p / (g.scale * g.width) / g.scale * g.width + g.width
-        = ap (λ (x : ℕ). x * g.width) (add-one (p / (g.scale * g.width) / g.scale))
-        ∙ suc-mul (p / (g.scale * g.width) / g.scale) g.width in
-        let below : (p / (g.scale * g.width) / g.scale + 1) * g.width ≤ g.height * g.width
-        = mul-le-mul_right g.width (omega arith) in
+        let row_lt : p / (k * width) / k < height = rows in
+        let column_lt : p % (k * width) / k < width = columns in
+        let next : (p / (k * width) / k + 1) * width
+        ≡ p / (k * width) / k * width + width
+        = ap (λ (x : ℕ). x * width) (add-one (p / (k * width) / k))
+        ∙ suc-mul (p / (k * width) / k) width in
+        let below : (p / (k * width) / k + 1) * width ≤ height * width
+        = mul-le-mul_right width (omega arith) in
         omega arith
       where
-        rows : p / (g.scale * g.width) / g.scale < g.height
+        rows : p / (k * width) / k < height
         rows =
-            rw (div-div-eq-div-mul p (g.scale * g.width) g.scale)
+            rw (div-div-eq-div-mul p (k * width) k)
             ((div-lt_iff_lt-mul block_pos).1 (omega (arith, cells_blocks)))
 
-        columns : p % (g.scale * g.width) / g.scale < g.width
+        columns : p % (k * width) / k < width
         columns =
             (div-lt_iff_lt-mul s.scaled).1
-            (omega (arith, mod-lt p wide_pos, mul_comm g.scale g.width))
+            (omega (arith, mod-lt p wide_pos, mul_comm k width))
 
 -- ---- the list
 
--- its length and its cells, where it has one
-pub placed_cells : (pattern : List ℕ) (g : Placing) → eqb g.scale 1 ≡ false → 0 < length (placed pattern g)
-    → length (placed pattern g) ≡ g.cells
-placed_cells pattern g e h =
-    let l : placed pattern g ≡ enlarged_by pattern g = pick_false _ _ e in
-    let k = enlarged_some pattern g 0 (subst (λ (x : List ℕ). 0 < length x) l h) in
-    ap length (l ∙ k.is) ∙ length-table _ _
+-- its length and its cells
+module _ (pattern : List ℕ) (k width cells : ℕ) where
+  pub enlarged_long : length (enlarged pattern k width cells) ≡ cells
+  enlarged_long = length-table _ _
 
-pub placed_known : (pattern : List ℕ) (g : Placing) (p : ℕ) → eqb g.scale 1 ≡ false
-    → p < length (placed pattern g) → Enlarged pattern g × (p < g.cells)
-placed_known pattern g p e h =
-    let l : placed pattern g ≡ enlarged_by pattern g = pick_false _ _ e in
-    let k = enlarged_some pattern g p (subst (λ (x : List ℕ). p < length x) l h) in
-    (k, omega (arith, ap length (l ∙ k.is) ∙ length-table _ _))
+  pub enlarged_cell : (p : ℕ) → p < cells
+      → get_or pattern (index_at k width p) 0 ≡ get_or (enlarged pattern k width cells) p 0
+  enlarged_cell p h = sym (get_or-table _ cells p 0 h)
 
-pub placed_cell : (pattern : List ℕ) (g : Placing) (p : ℕ) → eqb g.scale 1 ≡ false
-    → Enlarged pattern g → p < g.cells
-    → get_or pattern (index_at g.scale g.width p) 0 ≡ get_or (placed pattern g) p 0
-placed_cell pattern g p e k h =
-    sym (ap (λ (x : List ℕ). get_or x p 0) (pick_false _ _ e ∙ k.is) ∙ get_or-table _ g.cells p 0 h)
-
--- the cells of bytes are bytes, as they lie
-pub placed_bytes : (pattern : List ℕ) (g : Placing) → ((k : ℕ) → get_or pattern k 0 < 256) → (k : ℕ)
-    → get_or (placed pattern g) k 0 < 256
-unfolding enlarged_by
-placed_bytes pattern g bytes k = go (eqb g.scale 1) (both (sound g) (eqb (length pattern) (g.height * g.width)))
-  where
-    shown : List ℕ
-    shown = table (λ p. get_or pattern (index_at g.scale g.width p) 0) g.cells
-
-    inside : {t : Bool} → Tested (k < g.cells) t → get_or shown k 0 < 256
-    inside (holds h) = rw (get_or-table (λ p. get_or pattern (index_at g.scale g.width p) 0) g.cells k 0 h) (bytes _)
-    inside (fails n) =
-        let out : length shown ≤ k = omega (
-          arith,
-          length-table (λ p. get_or pattern (index_at g.scale g.width p) 0)
-              g.cells,
-        ) in
-        rw (get_or-eq_default shown 0 out) (omega arith)
-
-    go : (a b : Bool) → get_or (pick a pattern (pick b shown [])) k 0 < 256
-    go true b = bytes k
-    go false true = inside (lt_tested k g.cells)
-    go false false = omega arith
+  -- the cells of bytes are bytes
+  pub enlarged_bytes : ((i : ℕ) → get_or pattern i 0 < 256) → (p : ℕ)
+      → get_or (enlarged pattern k width cells) p 0 < 256
+  enlarged_bytes bytes p = go (lt_tested p cells)
+    where
+      go : {t : Bool} → Tested (p < cells) t → get_or (enlarged pattern k width cells) p 0 < 256
+      go (holds h) = rw (← enlarged_cell p h) (bytes _)
+      go (fails n) =
+          let out : length (enlarged pattern k width cells) ≤ p = omega (arith, enlarged_long) in
+          rw (get_or-eq_default (enlarged pattern k width cells) 0 out) (omega arith)

@@ -3,7 +3,9 @@
 -- (`laid_first`): rows come before columns in both.
 -- Assumes nothing.
 use Rattle.std.specs.Prelude.{◌≡◌, Bool, ℕ, ◌+◌, ◌*◌, ◌/◌, ◌%◌, ◌≤◌, ◌<◌}
-use Rattle.std.proofs.Common.{sym, ◌∙◌, ap, mul_comm, mul_assoc, add-mul, suc-mul, mul-le-mul_left, mul-le-mul_right, div-mul-le_self, div-add-mod', mod-lt, div-lt_iff_lt-mul, mod-eq_of_lt, mul-div_cancel, add-zero, add-one, arith}
+use Rattle.std.proofs.Common.{sym, ◌∙◌, ap, mul_comm, mul_assoc, add-mul, suc-mul, mul-le-mul_left, mul-le-mul_right}
+use Rattle.std.proofs.Common.{div-mul-le_self, div-add-mod', mod-lt, div-lt_iff_lt-mul, mod-eq_of_lt, mul-div_cancel}
+use Rattle.std.proofs.Common.{add-zero, add-one, arith}
 use Rattle.std.proofs.Math.Nat.{mul-add-mod_self_right, div-eq_of_lt, mul-add-div_right}
 use Rattle.theory.specs.Test.{Tested, holds, fails}
 use Rattle.theory.specs.Test.Laws.{lt_tested}

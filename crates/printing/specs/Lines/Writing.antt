@@ -2,13 +2,10 @@
 -- Why it holds: what is left of a line is the line of the bytes that are left, and what is left of a listing is the
 -- bytes of the records that are left.
 -- Assumes nothing.
-use Rattle.std.specs.Prelude.{◌≡◌, refl, Bool, take, Ok, Err}
-use Rattle.std.proofs.Math.Path.{sym, ap}
-use Rattle.std.proofs.Common.{◌∙◌, add-one, add-zero, length-append, length-drop, drop-drop, get_or-drop}
-use mathlib.Core.List.{List, [], ◌∷◌, ◌++◌}
-use Prim.Native.Nat.{ℕ, suc, ◌+◌, ◌-◌, ◌*◌, ◌≤◌, ◌<◌}
-use native.Mathlib.Omega.{arith}
-use Rattle.std.proofs.Math.ListN.{length, get_or, drop, get_or-append, drop_of_length-le}
+use Rattle.std.proofs.Common.{◌≡◌, refl, Bool, take, Ok, Err, sym, ap, ◌∙◌, add-one, add-zero, length-append}
+use Rattle.std.proofs.Common.{length-drop, drop-drop, get_or-drop, List, [], ◌∷◌, ◌++◌, ℕ, suc, ◌+◌, ◌-◌, ◌*◌, ◌≤◌, ◌<◌}
+use Rattle.std.proofs.Common.{arith, length, get_or, drop, drop_of_length-le}
+use Rattle.std.proofs.Math.ListN.{get_or-append}
 use Rattle.std.proofs.Math.Seq.{drop-cons, take-append_seam, drop-append_seam}
 use Rattle.theory.specs.Test.{Tested, holds, fails}
 use Rattle.theory.specs.Test.Laws.{lt_tested}
@@ -201,8 +198,15 @@ module _ (listing old : List ℕ) (at : ℕ) where
         going =
             λ records e. (
               records,
-              record
-                  { here = e; left = left_all old at (lines_of records) (omega (arith, lines_length records, ap length e)) },
+              record {
+                here = e;
+                left = left_all old at (lines_of records) (omega (
+                  arith,
+                  lines_length records,
+                  ap length
+                      e,
+                ));
+              },
             );
       }
 
@@ -273,7 +277,8 @@ module _ (listing old : List ℕ) (at : ℕ) where
                   )
 
 -- the same by what the reader answers at the place
-module _ (listing old : List ℕ) (at : ℕ) (output : List ℕ) (end place : ℕ) (w : PrintedTo listing old at output end place)
+module _ (listing old : List ℕ) (at : ℕ) (output : List ℕ) (end place : ℕ) (w : PrintedTo listing old at output end
+    place)
     (some : Recorded listing) (q : Read) (reads : read_said q ≡ cursor_said listing place) where
   -- it refuses: the listing is at its end
   pub reached_end : (why : Refusal) → q ≡ Err why → Printed listing old at output end

@@ -2,24 +2,20 @@
 -- (`listed_output`); where it refuses, its refusal is the program's (`refused_output`). Why it holds: an input that is
 -- right passes the program's own refusals, so that the search's answer decides.
 -- Assumes nothing.
-use Rattle.std.specs.Prelude.{◌≡◌, refl, List, [], ◌∷◌, ℕ, ◌+◌, ◌-◌, ◌*◌, ◌≤◌, ◌<◌, length, get_or, take, drop}
+use Rattle.std.specs.Prelude.{Result, Err, ⊤, ◌≡◌, refl, List, [], ◌∷◌, ℕ, ◌+◌, ◌-◌, ◌*◌, ◌≤◌, ◌<◌, length, get_or, take, drop}
 use Rattle.std.proofs.Math.Path.{sym, ap, ap₂}
 use Rattle.std.proofs.Common.{◌∙◌, arith, length-take, length-drop, take_all, length-take-le}
 use Rattle.std.proofs.Math.Nat.{add-sub_cancel_left}
 use Rattle.io.specs.Counts.{IsPrefixLen}
 use Rattle.refusals.specs.Refusals.{number_of, values_of}
 use Rattle.refusals.specs.declared.refusals.Refusal.{Refusal}
-use Rattle.refusals.specs.declared.refusals.Outcome.{Outcome}
-use Rattle.refusals.specs.declared.refusals.Outcome.TheVariants.{Refused as RefusedOutcome}
 use Rattle.listing.specs.Entries.{bytes_all}
 use Rattle.refusals.specs.Said.{accepts, outcome_said}
 use Rattle.shapes.specs.Questions.{ask}
 use Rattle.flags.specs.Flags.{Rooms, rooms, rooms_of}
-use Rattle.searched.specs.Search.{Lent, Done, done, searched_said, search_said, search_of}
+use Rattle.searched.specs.Search.{totalling, Searched, Lent, Done, done, searched_said, search_said, search_of}
 use Rattle.searched.specs.Search.Accepted.{said_is}
 use Rattle.searched.specs.Search.Outcome.{listed_fits, listed_bytes, listed_inside}
-use Rattle.searched.specs.declared.answer.Searched.{Searched}
-use Rattle.searched.specs.declared.answer.Searched.TheVariants.{Listed, Refused}
 use Rattle.printing.specs.Lines.{refusal_line, Recorded}
 use Rattle.printing.specs.Lines.Front.{Begins, BeginsWithLines}
 use Rattle.input.specs.Input.{rows_in, columns_in, height_in, width_in, text_in, pattern_in, question_in, input_said}
@@ -33,7 +29,7 @@ pub counted : (n : ℕ) (bytes xs : List ℕ) → Begins n bytes xs → IsPrefix
 counted n bytes xs b = ((b.inside, sym (length-take-le n bytes b.inside)), b.first)
 
 -- refused before it is searched
-pub refused_before : (input : List ℕ) (o : Outcome) (why : Refusal) → o ≡ RefusedOutcome why
+pub refused_before : (input : List ℕ) (o : Result ⊤ Refusal) (why : Refusal) → o ≡ Err why
     → outcome_said o ≡ input_said input
     → (n : ℕ) (bytes : List ℕ) → Begins n bytes (refusal_line (number_of why)) → Begins n bytes (output_of input)
 unfolding program_said
@@ -100,13 +96,13 @@ module _ {input : List ℕ} {a : Searched} {after : List ℕ} (r : Ran input a a
       program_own input r.right ∙ same
 
   -- refused
-  pub refused_output : (why : Refusal) → a ≡ Refused why → (n : ℕ) (bytes : List ℕ)
+  pub refused_output : (why : Refusal) → a ≡ Err why → (n : ℕ) (bytes : List ℕ)
       → Begins n bytes (refusal_line (number_of why)) → Begins n bytes (output_of input)
   refused_output why q_is n bytes b =
       rw (output_refused input (number_of why) (values_of why) (said_own ∙ ap searched_said q_is)) b
 
   -- listed
-  module _ (found refused size : ℕ) (q_is : a ≡ Listed found refused size) where
+  module _ (found refused size : ℕ) (q_is : a ≡ totalling found refused size) where
     accepted : program_said input ≡ accepts (found ∷ refused ∷ size ∷ [])
     accepted = said_own ∙ ap searched_said q_is
 

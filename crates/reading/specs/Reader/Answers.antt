@@ -3,8 +3,8 @@
 -- (`read_refused`). Number and values are taken back to the answer, by a function of each: so no two records have the
 -- same bytes.
 -- Assumes nothing.
-use Rattle.std.specs.Prelude.{◌≡◌, refl, Bool, true, false, List, [], ◌∷◌, ℕ, ◌+◌, ◌≤◌, ◌<◌, ltb, length, get_or, take, drop, Ok, Err}
-use Rattle.std.proofs.Common.{sym, ◌∙◌, ap, div-add-mod', arith, length-drop, length-take-le}
+use Rattle.std.proofs.Common.{◌≡◌, refl, Bool, true, false, List, [], ◌∷◌, ℕ, ◌+◌, ◌≤◌, ◌<◌, ltb, length, get_or, take}
+use Rattle.std.proofs.Common.{drop, Ok, Err, sym, ◌∙◌, ap, div-add-mod', arith, length-drop, length-take-le}
 use Rattle.theory.specs.Test.{Tested, holds, fails}
 use Rattle.theory.specs.Test.Laws.{lt_tested, says_true}
 use Rattle.refusals.specs.Refusals.Laws.{refusal_by, refusal_by_lem}

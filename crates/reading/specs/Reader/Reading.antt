@@ -2,10 +2,8 @@
 -- kind and the bytes behind it, as many as the kind says; so a function that takes these bytes one by one has read the
 -- record.
 -- Assumes nothing.
-use Rattle.std.specs.Prelude.{◌≡◌, refl, List, [], ◌∷◌, ℕ, zero, suc, ◌+◌, ◌-◌, ◌*◌, ◌/◌, ◌%◌, ◌≤◌, ◌<◌, get_or, take, drop, Err}
-use Rattle.std.proofs.Common.{sym, ◌∙◌, ap, drop-cons}
-use native.Mathlib.Omega.{arith}
-use Rattle.std.proofs.Math.ListN.{length}
+use Rattle.std.proofs.Common.{◌≡◌, refl, List, [], ◌∷◌, ℕ, zero, suc, ◌+◌, ◌-◌, ◌*◌, ◌/◌, ◌%◌, ◌≤◌, ◌<◌, get_or, take}
+use Rattle.std.proofs.Common.{drop, Err, sym, ◌∙◌, ap, drop-cons, arith, length}
 use Rattle.theory.specs.Test.{Tested}
 use Rattle.theory.specs.Test.Laws.{tested_iff, lt_tested, le_tested, both_tested, is_true, is_false}
 use Rattle.refusals.specs.Said.{accepts, refuses}

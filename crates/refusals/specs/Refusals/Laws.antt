@@ -13,7 +13,8 @@ use Rattle.refusals.specs.declared.refusals.Reason.TheVariants.{HasOtherPreimage
 use Rattle.refusals.specs.declared.refusals.Reason.TheVariants.{ColumnsDisagree, FlagsFalse, ScaleUnfit}
 use Rattle.refusals.specs.declared.refusals.Refusal.TheVariants.{Plain, ListingForm, ListingFalse}
 use Rattle.refusals.specs.declared.refusals.Refusal.TheVariants.{ListingBufferShort, CursorSpent}
-use Rattle.refusals.specs.Refusals.{number_of_reason, number_of, values_of}
+use Rattle.std.specs.Option.{unwrap_or}
+use Rattle.refusals.specs.Refusals.{number_of_reason, number_of, value_of, values_of, value_or_given}
 
 -- no refusal has the number 0
 reason_positive : (why : Reason) → 0 < number_of_reason why
@@ -65,3 +66,11 @@ refusal_by_lem (ListingForm x) at h = refl
 refusal_by_lem (ListingFalse x) at h = refl
 refusal_by_lem (ListingBufferShort needed) at h = refl
 refusal_by_lem (CursorSpent x) at h = refl
+
+-- the value that a refusal returns, or another number
+pub value_given : (why : Refusal) (other : ℕ) → unwrap_or (value_of why) other ≡ value_or_given (values_of why) other
+value_given (Plain why) other = refl
+value_given (ListingForm at) other = refl
+value_given (ListingFalse at) other = refl
+value_given (ListingBufferShort needed) other = refl
+value_given (CursorSpent at) other = refl

@@ -1,36 +1,46 @@
 -- Laws of chains of refusals: what stops a chain, what passes it, and what a chain that accepts has passed. Each is a
 -- case on the first part.
 -- Assumes nothing.
-use Rattle.std.specs.Prelude.{◌≡◌, refl, Bool, true, false, List, [], ℕ, ◌≤◌, ◌<◌}
+use Rattle.std.specs.Prelude.{◌≡◌, refl, Bool, true, false, List, [], ℕ, ◌≤◌, ◌<◌, Result, Ok, Err, ⊤}
 use Rattle.std.proofs.Common.{sym, ◌∙◌, ap, arith}
+use Rattle.std.specs.Result.{result_and}
 use Rattle.theory.specs.Test.{both}
 use Rattle.theory.specs.Test.Laws.{true_false}
 use Rattle.refusals.specs.declared.refusals.Refusal.{Refusal}
-use Rattle.refusals.specs.declared.refusals.Outcome.{Outcome}
-use Rattle.refusals.specs.declared.refusals.Outcome.TheVariants.{Accepted, Refused}
 use Rattle.refusals.specs.Said.{Said, Filled, filled, filled_by, over_front, ◌then◌, check_with, check, outcome_said}
-use Rattle.refusals.specs.Said.{said_number, refuses, accepts}
+use Rattle.refusals.specs.Said.{said_number, answer_said, number_in, refuses, accepts}
 
 -- ---- a chain from its front
 
+-- an outcome and another one is a chain
+pub and_said : (a b : Result ⊤ Refusal) → outcome_said (result_and a b) ≡ outcome_said a then outcome_said b
+and_said (Ok x) b = refl
+and_said (Err why) b = refl
+
+-- an answer's number does not hang on what it gives
+pub number_said : {A : Type 0} (values : A → List ℕ) (r : Result A Refusal)
+    → number_in r ≡ said_number (answer_said values r)
+number_said values (Ok x) = refl
+number_said values (Err why) = refl
+
 -- what refuses stays
-pub then_stopped : (o : Outcome) (why : Refusal) (a b : Said) → o ≡ Refused why → outcome_said o ≡ a
+pub then_stopped : (o : Result ⊤ Refusal) (why : Refusal) (a b : Said) → o ≡ Err why → outcome_said o ≡ a
     → outcome_said o ≡ a then b
 then_stopped o why a b e d = d ∙ rw (← d, e)
 
 -- the same of a refusal by its case
-pub then_refused : (o : Outcome) (why : Refusal) (b : Said) → o ≡ Refused why
-    → outcome_said (Refused why) ≡ outcome_said o then b
+pub then_refused : (o : Result ⊤ Refusal) (why : Refusal) (b : Said) → o ≡ Err why
+    → outcome_said (Err why) ≡ outcome_said o then b
 then_refused o why b e = rw e
 
 -- what is refused leaves a buffer as it was
-pub filled_kept : (o : Outcome) (why : Refusal) (a : Said) (new old : List ℕ) → o ≡ Refused why → outcome_said o ≡ a
+pub filled_kept : (o : Result ⊤ Refusal) (why : Refusal) (a : Said) (new old : List ℕ) → o ≡ Err why → outcome_said o ≡ a
     → filled o old ≡ filled_by a new old
 filled_kept o why a new old e d = rw (← d, e)
 
 -- what is accepted has the new values first
 pub filled_new : (a : Said) (new old buffer : List ℕ) → a ≡ accepts [] → buffer ≡ over_front new old
-    → filled Accepted buffer ≡ filled_by a new old
+    → filled (Ok tt) buffer ≡ filled_by a new old
 filled_new a new old buffer e d = rw (e, d)
 
 -- the two parts of such an answer
@@ -41,7 +51,7 @@ pub same_buffer : {a b : Filled} → a ≡ b → a.buffer ≡ b.buffer
 same_buffer e = ap (λ (f : Filled). f.buffer) e
 
 -- an accepted outcome accepts
-pub passed_said : (o : Outcome) (a : Said) → o ≡ Accepted → outcome_said o ≡ a → a ≡ accepts []
+pub passed_said : (o : Result ⊤ Refusal) (a : Said) → o ≡ Ok tt → outcome_said o ≡ a → a ≡ accepts []
 passed_said o a e d = sym d ∙ rw e
 
 -- refused is not accepted

@@ -1,5 +1,4 @@
--- 2, 3, 4, 9, 10 in their order: each number where its test fails and the earlier ones pass; nothing is refused
--- exactly if there is room. The same of 2, 3, 4, 10 for flags alone.
+-- 2, 3, 4, 9, 10 in their order: nothing is refused exactly if there is room. The same of 2, 3, 4, 10 for flags alone.
 -- Assumes nothing.
 use Rattle.std.specs.Prelude.{◌≡◌, Bool, ℕ, ◌≤◌, ◌<◌, leb}
 use Rattle.std.proofs.Common.{sym}
@@ -7,13 +6,10 @@ use mathlib.Core.List.{List, []}
 use borrow.Author.Tests.{le-leb, lt-leb}
 use Rattle.theory.specs.Test.{both, Tested}
 use Rattle.theory.specs.Test.Laws.{both_tested, le_tested, says_true}
-use Rattle.refusals.specs.Said.{accepts, refuses, ◌then◌, check, outcome_said}
-use Rattle.refusals.specs.Said.Laws.{then_stopped, then_both, check_passed, check_true}
+use Rattle.refusals.specs.Said.{accepts, refuses, ◌then◌, check}
+use Rattle.refusals.specs.Said.Laws.{then_both, check_passed, check_true}
 use Rattle.shapes.specs.Questions.{Question, Posed, shape_said, links_needed, windows_of}
 use Rattle.shapes.specs.Questions.Laws.{posed, posed_said}
-use Rattle.refusals.specs.declared.refusals.Refusal.{Refusal}
-use Rattle.refusals.specs.declared.refusals.Outcome.{Outcome}
-use Rattle.refusals.specs.declared.refusals.Outcome.TheVariants.{Refused}
 use Rattle.flags.specs.Flags.{Rooms, RoomFor}
 use Rattle.rooms.specs.Rooms.{room_said, flags_room_said}
 
@@ -24,12 +20,7 @@ module _ (q : Question) (w : Rooms) where
   windows_tested : Tested ((windows_of q ≤ w.counts) × (windows_of q ≤ w.flags)) windows_good
   windows_tested = both_tested (le_tested (windows_of q) w.counts) (le_tested (windows_of q) w.flags)
 
-  -- refused by the shape
-  pub room_stopped : (o : Outcome) (why : Refusal) → o ≡ Refused why → outcome_said o ≡ shape_said q
-      → outcome_said o ≡ room_said q w
-  unfolding room_said
-  room_stopped o why e d = then_stopped o why (shape_said q) _ e d
-
+  -- which refusal is given, where those before it are not
   module _ (shape : shape_said q ≡ accepts []) where
     pub room_links_refused : w.links < links_needed q → refuses 9 [] ≡ room_said q w
     unfolding room_said
@@ -47,8 +38,7 @@ module _ (q : Question) (w : Rooms) where
             shape,
             le-leb (links_needed q) w.links links,
             le-leb (windows_of q) w.counts k,
-            lt-leb (windows_of q)
-                w.flags h,
+            lt-leb (windows_of q) w.flags h,
           )
 
       pub room_accepted : windows_of q ≤ w.counts → windows_of q ≤ w.flags → accepts [] ≡ room_said q w
@@ -86,11 +76,6 @@ module _ (q : Question) (w : Rooms) where
 -- ---- of flags alone
 
 module _ (q : Question) (flags : ℕ) where
-  pub flags_room_stopped : (o : Outcome) (why : Refusal) → o ≡ Refused why → outcome_said o ≡ shape_said q
-      → outcome_said o ≡ flags_room_said q flags
-  unfolding flags_room_said
-  flags_room_stopped o why e d = then_stopped o why (shape_said q) _ e d
-
   module _ (shape : shape_said q ≡ accepts []) where
     pub flags_room_refused : flags < windows_of q → refuses 10 [] ≡ flags_room_said q flags
     unfolding flags_room_said

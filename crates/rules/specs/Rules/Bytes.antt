@@ -1,8 +1,9 @@
 -- Bytes that stand at a place of a listing. Pieces one behind the other are one piece, and a piece that is as long as
 -- the listing is the listing.
 -- Assumes nothing.
-use Rattle.std.specs.Prelude.{◌≡◌, refl, true, false, List, [], ◌∷◌, ◌++◌, ℕ, zero, suc, ◌+◌, ◌-◌, ◌≤◌, ◌<◌, length, get_or, drop}
-use Rattle.std.proofs.Common.{sym, ◌∙◌, ap, append-nil, append_assoc, add-zero, arith, length-append, length-drop, drop-cons, drop-drop, get_or-drop}
+use Rattle.std.proofs.Common.{◌≡◌, refl, true, false, List, [], ◌∷◌, ◌++◌, ℕ, zero, suc, ◌+◌, ◌-◌, ◌≤◌, ◌<◌, length}
+use Rattle.std.proofs.Common.{get_or, drop, sym, ◌∙◌, ap, append-nil, append_assoc, add-zero, arith, length-append}
+use Rattle.std.proofs.Common.{length-drop, drop-cons, drop-drop, get_or-drop}
 use Rattle.std.proofs.Math.ListN.{get_or-append}
 use Rattle.std.proofs.Math.Seq.{drop-append_seam}
 use Rattle.listing.specs.Records.{kind_size}
@@ -82,7 +83,8 @@ holds_stands l at kind n size s =
     )
 
 first_byte : (l : List ℕ) (at kind : ℕ) (b : List ℕ) → Holds l at (kind ∷ b) → get_or l at 0 ≡ kind
-first_byte l at kind b h = ap (λ (k : ℕ). get_or l k 0) (sym (add-zero at)) ∙ holds_byte l at (kind ∷ b) h 0 (omega arith)
+first_byte l at kind b h = ap (λ (k : ℕ). get_or l k 0) (sym (add-zero at))
+    ∙ holds_byte l at (kind ∷ b) h 0 (omega arith)
 
 -- and where a record's bytes stand, it stands as its kind
 pub stands_holds : (l : List ℕ) (at kind : ℕ) (b : List ℕ) → kind_size kind ≡ suc (length b) → Holds l at (kind ∷ b)

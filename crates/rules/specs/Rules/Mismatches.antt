@@ -61,7 +61,13 @@ pub cells_bytes : (row column width i j k l : ℕ) → j < width → l < width
     → mismatch_bytes (mismatch_body_at row column width (i * width + j) (k * width + l))
     ≡ row ∷ column ∷ i ∷ j ∷ k ∷ l ∷ []
 cells_bytes row column width i j k l h g =
-    rw (corner_row_lem width i j h, corner_column_lem width i j h, corner_row_lem width k l g, corner_column_lem width k l g)
+    rw (
+      corner_row_lem width i j h,
+      corner_column_lem width i j h,
+      corner_row_lem width k l g,
+      corner_column_lem width
+          k l g,
+    )
 
 -- and the positions of a mismatch are cells that spoil
 pub spoils_at : (side : Bool) (m w : ℕ → ℕ) (height width q p : ℕ) → 0 < width → p < height * width

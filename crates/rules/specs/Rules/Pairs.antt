@@ -2,11 +2,8 @@
 -- listing, rising, each with the window's symbol in all of its symbol's cells, and no two with the same one. Why it
 -- holds: each pair is a test of its own, and what was given before is all that one pair has to do with another.
 -- Assumes nothing.
-use Rattle.std.specs.Prelude.{◌≡◌, refl, Bool, false, ℕ, suc, ◌+◌, ◌*◌, ◌<◌, eqb, length, get_or}
-use Rattle.std.proofs.Math.Path.{sym, ap}
-use Rattle.std.proofs.Common.{◌∙◌, arith, eq-eqb, ne_eqb}
-use Rattle.std.proofs.Math.Bool.{true}
-use mathlib.Core.List.{List, [], ◌∷◌, ◌++◌}
+use Rattle.std.proofs.Common.{◌≡◌, refl, Bool, false, ℕ, suc, ◌+◌, ◌*◌, ◌<◌, eqb, length, get_or, sym, ap, ◌∙◌, arith}
+use Rattle.std.proofs.Common.{eq-eqb, ne_eqb, true, List, [], ◌∷◌, ◌++◌, Ok}
 use Rattle.theory.specs.Test.{pick, Tested, holds, fails}
 use Rattle.theory.specs.Test.Laws.{true_false, says_true, is_true, eq_tested}
 use Rattle.theory.specs.Count.{Rising}
@@ -20,7 +17,6 @@ use Rattle.listing.specs.Entries.Laws.{bytes_none, bytes_cons, pairs_none, pairs
 use Rattle.listing.specs.declared.records.Record.TheVariants.{Pair}
 use Rattle.claims.specs.Claims.{or_stop, byte_at, stands, has_image_test, right_pair, pairs_from}
 use Rattle.claims.specs.Claims.{Walk}
-use Rattle.std.specs.Prelude.{Ok}
 use Rattle.rules.specs.Check.{place_reached}
 use Rattle.claims.specs.Walks.{goes_not_stops}
 use Rattle.pairs.specs.Pairs.{has_image_tested}
@@ -132,7 +128,8 @@ module _ (m w : ℕ → ℕ) (n : ℕ) (listing : List ℕ) where
       there : Holds listing at (bytes_all (pairs_of image (a ∷ s)))
       there =
           rw (pair_bytes_lem image a s, ← tail_same)
-          (holds_both listing at (bytes_of (Pair a (image a))) (bytes_all (pairs_of (image_in listing s (at + 3)) s)) first
+          (holds_both listing at (bytes_of (Pair a (image a))) (bytes_all (pairs_of (image_in listing s (at + 3)) s))
+          first
           ih.there)
 
       in_s : (x : ℕ) → contains (a ∷ s) x ≡ true → (x ≡ a → ⊥) → contains s x ≡ true

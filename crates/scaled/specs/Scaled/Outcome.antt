@@ -3,7 +3,7 @@
 -- Accepted, the search at every k had room for every scale, its values are the sums, and the listings are written
 -- (`EveryLists`). Each is a case on what is said.
 -- Assumes nothing.
-use Rattle.std.specs.Prelude.{◌≡◌, List, [], ◌∷◌, ℕ, ◌+◌, ◌≤◌, ◌<◌, leb, length}
+use Rattle.std.specs.Prelude.{Result, Err, ⊤, ◌≡◌, List, [], ◌∷◌, ℕ, ◌+◌, ◌≤◌, ◌<◌, leb, length}
 use Rattle.std.proofs.Math.Path.{refl, sym, ap}
 use Rattle.std.proofs.Common.{◌∙◌, le-leb}
 use Rattle.std.proofs.lemmas.Bool.{lt-leb}
@@ -11,8 +11,6 @@ use Rattle.theory.specs.Test.Laws.{le_tested, says_true}
 use Rattle.refusals.specs.Said.{Said, accepts, refuses, ◌then◌, over_front, outcome_said, refusal_said}
 use Rattle.refusals.specs.Said.Laws.{then_both, check_passed}
 use Rattle.refusals.specs.declared.refusals.Refusal.{Refusal}
-use Rattle.refusals.specs.declared.refusals.Outcome.{Outcome}
-use Rattle.refusals.specs.declared.refusals.Outcome.TheVariants.{Refused}
 use Rattle.shapes.specs.Questions.{Question}
 use Rattle.flags.specs.Flags.{Work, RoomFor, rooms_of, work_after}
 use Rattle.entries.specs.Listing.{found_in, refused_in, needed_length, search_listing}
@@ -29,7 +27,7 @@ use Rattle.scaled.specs.Scaled.Works.{works_next, next_room}
 
 module _ (k : ℕ) (q : Question) (l : Lent) where
   -- refused before it begins, nothing is changed
-  pub scaled-stopped : (o : Outcome) (why : Refusal) → o ≡ Refused why
+  pub scaled-stopped : (o : Result ⊤ Refusal) (why : Refusal) → o ≡ Err why
       → outcome_said o ≡ scaled_room_said k q (rooms_of l.work)
       → record { said = refusal_said why; lent = l } ≡ scaled_of k q l
   unfolding scaled_of
@@ -85,7 +83,7 @@ module _ (k : ℕ) (q : Question) (l : Lent) where
 -- ---- the search at every k
 
 module _ (q : Question) (l : Lent) where
-  pub every_stopped : (o : Outcome) (why : Refusal) → o ≡ Refused why
+  pub every_stopped : (o : Result ⊤ Refusal) (why : Refusal) → o ≡ Err why
       → outcome_said o ≡ every_room_said q (rooms_of l.work)
       → record { said = refusal_said why; lent = l } ≡ every_of q l
   unfolding every_of

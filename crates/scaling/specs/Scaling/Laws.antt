@@ -1,32 +1,19 @@
 -- Laws of the room at a scale: a side enlarged fits by its quotient; 2, 3 and 17, then 9 and 10 of the enlarged sides
--- are the chains of crates/scaled; a pattern that lies by sound numbers is the enlargement (`placed_enlarged`), and the
--- numbers of a scale that fits are sound (`fitting_placed`).
+-- are the chains of crates/scaled; the numbers of a scale that fits are small.
 -- Assumes nothing.
-use Rattle.std.specs.Prelude.{◌≡◌, refl, Bool, true, List, [], ℕ, ◌*◌, ◌/◌, ◌≤◌, ◌<◌, leb, eqb, length, get_or}
+use Rattle.std.specs.Prelude.{◌≡◌, true, [], ℕ, ◌*◌, ◌/◌, ◌≤◌, leb}
 use Rattle.std.proofs.Common.{sym, ◌∙◌, ap, le-div_iff_mul-le, le_refl, mul-le-mul, mul-le-mul_left, mul-zero, arith}
 use Rattle.std.proofs.Math.Nat.{one-mul}
-use borrow.Author.Tests.{le-leb, lt-leb}
-use Rattle.theory.specs.Test.{Tested, holds, fails}
-use Rattle.theory.specs.Test.Laws.{tested_same, tested_iff, le_tested, eq_tested, is_true, pick_true, pick_false}
-use Rattle.theory.specs.Table.{table}
-use Rattle.refusals.specs.Said.{Said, accepts, refuses, ◌then◌, outcome_said}
-use Rattle.refusals.specs.Said.Laws.{then_stopped}
-use Rattle.refusals.specs.declared.refusals.Refusal.{Refusal}
-use Rattle.refusals.specs.declared.refusals.Outcome.{Outcome}
-use Rattle.refusals.specs.declared.refusals.Outcome.TheVariants.{Refused}
+use Rattle.theory.specs.Test.Laws.{tested_same, tested_iff, le_tested, is_true}
+use Rattle.refusals.specs.Said.{Said, accepts, ◌then◌}
 use Rattle.shapes.specs.Shapes.{Sides, windows}
-use Rattle.shapes.specs.Shapes.Laws.{product_le}
-use Rattle.shapes.specs.Questions.{Grid, grid_of, Question, sides_of}
+use Rattle.shapes.specs.Questions.{Question, sides_of}
 use Rattle.shapes.specs.declared.shapes.Shape.{Shape}
 use Rattle.flags.specs.Flags.{Rooms}
-use Rattle.placed.specs.Placing.{index_at, inverse, Sound, placed}
-use Rattle.placed.specs.Placing.Laws.{enlarged_known}
-use Rattle.placed.specs.declared.placing.Placing.{Placing}
-use Rattle.scaled.specs.Scaled.{enlarged_cells, scaled, FitsAt, scaled_shape_said, scaled_room_said, largest_of}
+use Rattle.scaled.specs.Scaled.{scaled, FitsAt, scaled_shape_said, scaled_room_said, largest_of}
 use Rattle.scaled.specs.Scaled.{every_room_said}
 use Rattle.scaled.specs.Scaled.Fit.{PosedAt, posed_between, largest_some}
-use Rattle.scaled.specs.Scaled.Cells.{enlarged_one}
-use Rattle.scaling.specs.Scaling.{links_said, windows_said}
+use Rattle.rooms.specs.Rooms.{links_said, windows_said}
 
 -- ---- one side
 
@@ -46,52 +33,10 @@ module _ (whole part k : ℕ) where
       (le_tested k (whole / part)))
       (le_tested (k * part) whole)
 
--- ---- 9 and 10 of sides
-
-module _ (s : Shape) (links : ℕ) where
-  pub links_refused : links < s.rows * s.width → refuses 9 [] ≡ links_said s links
-  unfolding links_said
-  links_refused h = rw (lt-leb (s.rows * s.width) links h)
-
-  pub links_accepted : s.rows * s.width ≤ links → accepts [] ≡ links_said s links
-  unfolding links_said
-  links_accepted h = rw (le-leb (s.rows * s.width) links h)
-
-pub windows_few : (s : Shape) → s.rows ≤ 255 → s.columns ≤ 255
-    → windows s.rows s.columns s.height s.width ≤ 65536
-windows_few s r c = product_le _ _ 256 256 (omega (arith, r)) (omega (arith, c))
-
-module _ (s : Shape) (counts flags : ℕ) where
-  abbrev all : ℕ
-  all = windows s.rows s.columns s.height s.width
-
-  pub counts_refused : counts < all → refuses 10 [] ≡ windows_said s counts flags
-  unfolding windows_said
-  counts_refused h = rw (lt-leb all counts h)
-
-  pub flags_refused : all ≤ counts → flags < all → refuses 10 [] ≡ windows_said s counts flags
-  unfolding windows_said
-  flags_refused h l = rw (le-leb all counts h, lt-leb all flags l)
-
-  pub windows_accepted : all ≤ counts → all ≤ flags → accepts [] ≡ windows_said s counts flags
-  unfolding windows_said
-  windows_accepted h l = rw (le-leb all counts h, le-leb all flags l)
-
 -- ---- the chains
 
 module _ (q : Question) (r : Rooms) where
-  -- refused by 2, 3 or 17
-  pub scaled_room_stopped : (k : ℕ) (o : Outcome) (why : Refusal) → o ≡ Refused why
-      → outcome_said o ≡ scaled_shape_said k q → outcome_said o ≡ scaled_room_said k q r
-  unfolding scaled_room_said
-  scaled_room_stopped k o why e d = then_stopped o why (scaled_shape_said k q) _ e d
-
-  pub every_room_stopped : (o : Outcome) (why : Refusal) → o ≡ Refused why
-      → outcome_said o ≡ scaled_shape_said 1 q → outcome_said o ≡ every_room_said q r
-  unfolding every_room_said
-  every_room_stopped o why e d = then_stopped o why (scaled_shape_said 1 q) _ e d
-
-  -- else by 9 and 10 for the enlarged sides
+  -- where 2, 3 and 17 refuse nothing, by 9 and 10 for the enlarged sides
   pub scaled_room_goes : (k : ℕ) (links windows : Said) → scaled_shape_said k q ≡ accepts []
       → links ≡ links_said (sides_of (scaled k q)) r.links
       → windows ≡ windows_said (sides_of (scaled k q)) r.counts r.flags
@@ -118,36 +63,11 @@ pub largest_sides : (q : Question) (k : ℕ) (sides : Shape) → k ≡ largest_o
     → sides ≡ sides_of (scaled (largest_of q) q)
 largest_sides q k sides e d = d ∙ ap (λ (n : ℕ). sides_of (scaled n q)) e
 
--- ---- how an enlargement lies
+-- ---- the numbers of an enlargement
 
--- by scale 1 it is the pattern
-once_is : (pattern : List ℕ) (k height width : ℕ) → k ≡ 1 → length pattern ≡ height * width
-    → enlarged_cells k pattern height width ≡ pattern
-once_is pattern k height width one size =
-    ap (λ (x : ℕ). enlarged_cells x pattern height width) one
-    ∙ ap (λ (g : Grid). g.cells) (enlarged_one (grid_of pattern height width) size)
-
--- else both are a table of the cells that are shown
-table_is_enlarged : (pattern : List ℕ) (g : Placing) → Sound g
-    → table (λ p. get_or pattern (index_at g.scale g.width p) 0) g.cells
-    ≡ enlarged_cells g.scale pattern g.height g.width
-unfolding enlarged_cells
-table_is_enlarged pattern g s =
-    ap (λ (n : ℕ). table (λ p. get_or pattern (index_at g.scale g.width p) 0) n) s.cells_is
-
--- a pattern that lies by sound numbers is the enlargement by their scale
-pub placed_enlarged : (g : Placing) → Sound g → (pattern : List ℕ) → length pattern ≡ g.height * g.width
-    → placed pattern g ≡ enlarged_cells g.scale pattern g.height g.width
-placed_enlarged g s pattern size = go _ refl (eq_tested g.scale 1)
-  where
-    go : (t : Bool) → eqb g.scale 1 ≡ t → Tested (g.scale ≡ 1) t
-        → placed pattern g ≡ enlarged_cells g.scale pattern g.height g.width
-    go t e (holds one) = pick_true _ _ e ∙ sym (once_is pattern g.scale g.height g.width one size)
-    go t e (fails n) = pick_false _ _ e ∙ (enlarged_known pattern g s size).is ∙ table_is_enlarged pattern g s
-
--- the numbers of a scale that fits are small
+-- of a scale that fits they are small
 module _ (k : ℕ) (s : Shape) (good : Sides s.rows s.columns s.height s.width) (fit : FitsAt k s) where
-  pub scale_small : k ≤ 255
+  scale_small : k ≤ 255
   scale_small =
       omega (
         arith,
@@ -156,57 +76,7 @@ module _ (k : ℕ) (s : Shape) (good : Sides s.rows s.columns s.height s.width) 
         good.rows_good.small,
       )
 
-  pub high_small : k * s.height ≤ 255
-  high_small = omega (arith, fit.height_le, good.rows_good.small)
-
-  pub wide_small : k * s.width ≤ 255
-  wide_small = omega (arith, fit.width_le, good.columns_good.small)
-
-  pub wide_some : 1 ≤ k * s.width
-  wide_some = omega (arith, mul-le-mul fit.positive good.width_good.positive)
-
   pub block_small : k * s.width * k ≤ 65025
-  block_small = omega (arith, mul-le-mul wide_small scale_small)
-
-  pub block_some : 1 ≤ k * s.width * k
-  block_some = omega (arith, mul-le-mul wide_some fit.positive)
-
-  pub cells_small : k * s.height * (k * s.width) ≤ 65025
-  cells_small = omega (arith, mul-le-mul high_small wide_small)
-
-  -- and sound, with their inverses: the pattern lies enlarged
-  pub fitting_placed : (by_scale by_width by_block : ℕ) → by_scale ≡ inverse k → by_width ≡ inverse (k * s.width)
-      → by_block ≡ inverse (k * s.width * k)
-      → (pattern : List ℕ) → length pattern ≡ s.height * s.width
-      → placed pattern
-      (record {
-        scale = k;
-        height = s.height;
-        width = s.width;
-        cells = k * s.height * (k * s.width);
-        by_scale = by_scale;
-        by_width = by_width;
-        by_block = by_block;
-      })
-      ≡ enlarged_cells k pattern s.height s.width
-  fitting_placed by_scale by_width by_block is_scale is_width is_block =
-      placed_enlarged
-      (record {
-        scale = k;
-        height = s.height;
-        width = s.width;
-        cells = k * s.height * (k * s.width);
-        by_scale = by_scale;
-        by_width = by_width;
-        by_block = by_block;
-      })
-      (record {
-        scaled = fit.positive;
-        tall = good.height_good.positive;
-        broad = good.width_good.positive;
-        cells_is = refl;
-        few = cells_small;
-        by_scale = is_scale;
-        by_width = is_width;
-        by_block = is_block;
-      })
+  block_small =
+      let wide : k * s.width ≤ 255 = omega (arith, fit.width_le, good.columns_good.small) in
+      omega (arith, mul-le-mul wide scale_small)

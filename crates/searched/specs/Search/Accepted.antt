@@ -1,7 +1,7 @@
 -- The search's refusals in their order: each number where its test fails and the earlier ones pass, and what a search
 -- that is not refused has.
 -- Assumes nothing.
-use Rattle.std.specs.Prelude.{◌≡◌, List, [], ◌∷◌, ℕ, ◌≤◌, ◌<◌, leb, length, get_or}
+use Rattle.std.specs.Prelude.{Result, Err, ⊤, ◌≡◌, List, [], ◌∷◌, ℕ, ◌≤◌, ◌<◌, leb, length, get_or}
 use Rattle.std.proofs.Math.Path.{refl, ap}
 use Rattle.std.proofs.Common.{sym, ◌∙◌}
 use borrow.Author.Tests.{le-leb, lt-leb}
@@ -10,8 +10,6 @@ use Rattle.refusals.specs.Said.{over_front, Said, accepts, refuses, ◌then◌, 
 use Rattle.refusals.specs.Said.Laws.{then_both, check_passed, not_accepted}
 use Rattle.shapes.specs.Questions.{Question}
 use Rattle.refusals.specs.declared.refusals.Refusal.{Refusal}
-use Rattle.refusals.specs.declared.refusals.Outcome.{Outcome}
-use Rattle.refusals.specs.declared.refusals.Outcome.TheVariants.{Refused}
 use Rattle.flags.specs.Flags.{Rooms, rooms_of, RoomFor}
 use Rattle.entries.specs.Listing.{found_in, refused_in, needed_length, search_listing}
 use Rattle.searched.specs.Search.{Lent, Done, listed_said, search_said, listed_of, stopped, search_of}
@@ -20,7 +18,7 @@ use Rattle.rooms.specs.Rooms.Laws.{room_passed, room_passes}
 
 module _ (q : Question) (l : Lent) where
   -- refused before it begins, nothing is changed
-  pub search_stopped : (o : Outcome) (why : Refusal) → o ≡ Refused why → outcome_said o ≡ room_said q (rooms_of l.work)
+  pub search_stopped : (o : Result ⊤ Refusal) (why : Refusal) → o ≡ Err why → outcome_said o ≡ room_said q (rooms_of l.work)
       → record { said = refusal_said why; lent = l } ≡ search_of q l
   unfolding search_of
   search_stopped o why e d = rw (← d, e)

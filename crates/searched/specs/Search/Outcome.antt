@@ -10,13 +10,11 @@ use Rattle.shapes.specs.Questions.{Question}
 use Rattle.listing.specs.Entries.{bytes_all}
 use Rattle.entries.specs.Listing.{search_records, search_listing}
 use Rattle.entries.specs.Listing.Length.{length_listing}
-use Rattle.searched.specs.Search.{Lent, Done, done, search_of}
+use Rattle.searched.specs.Search.{totalling, Searched, Lent, Done, done, search_of}
 use Rattle.searched.specs.Search.Accepted.{Lists, lists}
 use Rattle.searched.specs.Theorems.{first_bytes}
-use Rattle.searched.specs.declared.answer.Searched.{Searched}
-use Rattle.searched.specs.declared.answer.Searched.TheVariants.{Listed}
 
-module _ (q : Question) (l after : Lent) (r : Searched) (found refused size : ℕ) (r_is : r ≡ Listed found refused size)
+module _ (q : Question) (l after : Lent) (r : Searched) (found refused size : ℕ) (r_is : r ≡ totalling found refused size)
     (is : done r after ≡ search_of q l) where
   -- what an accepted search had, and what it says
   pub listed : Lists q l found refused size

@@ -16,9 +16,8 @@ use Rattle.entries.specs.Listing.{found_in, refused_in, needed_length, search_li
 use Rattle.entries.specs.Listing.Length.{length_listing}
 use Rattle.rooms.specs.Rooms.{flags_room_said}
 use Rattle.rooms.specs.Rooms.Laws.{flags_room_passed, flags_room_passes}
-use Rattle.searched.specs.Search.{Lent, Done, done, listed_said, search_of, list_said, list_done, list_of}
+use Rattle.searched.specs.Search.{totalling, Lent, Done, done, listed_said, search_of, list_said, list_done, list_of}
 use Rattle.searched.specs.Search.Accepted.{Lists, lists, values_same}
-use Rattle.searched.specs.declared.answer.Searched.TheVariants.{Listed}
 
 -- the listing of a question that is not refused was written over the front of a buffer, and its totals were answered
 pub record Writes (q : Question) (old after : List ℕ) (found refused size : ℕ) : Type 0 where
@@ -47,7 +46,7 @@ lists_writes q l found refused size a =
     }
 
 pub searched_writes : (q : Question) (l after : Lent) (found refused size : ℕ)
-    → done (Listed found refused size) after ≡ search_of q l
+    → done (totalling found refused size) after ≡ search_of q l
     → Writes q l.listing after.listing found refused size
 searched_writes q l after found refused size is =
     rw (ap (λ (d : Done). d.lent.listing) is)
@@ -90,7 +89,7 @@ list_short q flags listing p room t h =
     rw (flags_room_passes q (length flags) p room, t, lt-leb (needed_length q) listing h)
 
 pub listed_writes : (q : Question) (flags old after : List ℕ) (found refused size : ℕ)
-    → list_done (Listed found refused size) after ≡ list_of q flags old
+    → list_done (totalling found refused size) after ≡ list_of q flags old
     → Writes q old after found refused size
 unfolding list_of
 listed_writes q flags old after found refused size is =

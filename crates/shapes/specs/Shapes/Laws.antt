@@ -4,7 +4,7 @@ use Rattle.std.specs.Prelude.{◌≡◌, ℕ, ◌+◌, ◌*◌, ◌≤◌}
 use Rattle.std.proofs.Common.{mul-le-mul}
 use Rattle.theory.specs.Test.{Tested}
 use Rattle.theory.specs.Test.Laws.{tested_iff, eq_tested, le_tested, both_tested}
-use Rattle.shapes.specs.Shapes.{Side, good_side_test, Sides, good_sides_test, good_cells_test, Fits, fits, Corner, corner_inside_test}
+use Rattle.shapes.specs.Shapes.{Side, good_side_test, Sides, good_sides_test, good_cells_test, Fits, fits, Sized, Corner, corner_inside_test}
 
 pub good_side : (n : ℕ) → Tested (Side n) (good_side_test n)
 unfolding good_side_test
@@ -42,3 +42,9 @@ corner_inside_lem rows columns height width row column =
 -- a product of two small numbers is small
 pub product_le : (a b m n : ℕ) → a ≤ m → b ≤ n → a * b ≤ m * n
 product_le a b m n h k = mul-le-mul h k
+
+-- what the number of windows asks of the sides
+pub windows_ask : (rows columns height width : ℕ) → Sized rows columns height width
+    → (rows ≤ 255) × (columns ≤ 255) × (height ≤ rows) × (width ≤ columns)
+windows_ask rows columns height width z =
+    (z.sides.rows_good.small, z.sides.columns_good.small, z.fitting.height_le, z.fitting.width_le)

@@ -10,10 +10,12 @@ use Rattle.prefixes.specs.State.Laws.{swept_none}
 use Rattle.reach.specs.Reach.Laws.{window_suffix}
 use Rattle.reach.specs.Reach.{ReachAt}
 use Rattle.sweep.specs.Sweep.Steps.{reach_anew, top_small}
+use Rattle.rows.specs.declared.run.Run.{Run}
+use Rattle.rows.specs.declared.run.FirstEnd.{FirstEnd}
 use Rattle.sweep.specs.declared.steps.Step.{Step}
 use Rattle.theory.specs.Older.{Older}
 use Rattle.shapes.specs.Shapes.{ShapeOf, across, down}
-use Rattle.sweep.specs.Sweep.{RunAt, NextAt, NextIs, SidesOf, OwnSoFar, PatternAt, SweepAt, column_strip}
+use Rattle.sweep.specs.Sweep.{RunAt, NextAt, NextIs, SidesOf, OwnSoFar, PatternAt, SweepAt, column_strip, own_at}
 use Rattle.sweep.specs.Sweep.{end_of, earlier_of}
 use Rattle.cells.specs.Windows.{window_at}
 use Rattle.cells.specs.Windows.Laws.{corner_row_lem, corner_column_lem}
@@ -32,10 +34,10 @@ cells_some s cells n shape e =
     omega (arith, mul-le-mul tall broad)
 
 -- a window is passed over: the run stands before the next one with what it had
-pub run_past : (text : List ℕ) (s : Shape) (pattern : List ℕ) (left : ℕ) (last : List ℕ) (row reached top : ℕ)
-    → RunAt text (column_strip s left) pattern last row reached top s.height
-    → RunAt text (column_strip s left) pattern last row reached (top + 1) s.height
-run_past text s pattern left last row reached top here =
+pub run_past : (text : List ℕ) (s : Shape) (pattern : List ℕ) (left : ℕ) (last : List ℕ) (run : Run) (top : ℕ)
+    → RunAt text (column_strip s left) pattern last run top s.height
+    → RunAt text (column_strip s left) pattern last run (top + 1) s.height
+run_past text s pattern left last run top here =
     let more : (top + s.height) * s.width ≤ (top + 1 + s.height) * s.width = mul-le-mul_right s.width
     (omega arith) in
     record {
@@ -48,13 +50,12 @@ run_past text s pattern left last row reached top here =
 -- and one whose first end is known
 pub run_next : (text : List ℕ) (s : Shape) (pattern : List ℕ) (left row top : ℕ) (r : Step) (last : List ℕ)
     → NextIs text (column_strip s left) pattern row top s.height r last
-    → RunAt text (column_strip s left) pattern last r.row r.reached (top + 1) s.height
-run_next text s pattern left row top r last got =
-    run_past text s pattern left last r.row r.reached top got.run
+    → RunAt text (column_strip s left) pattern last r.run (top + 1) s.height
+run_next text s pattern left row top r last got = run_past text s pattern left last r.run top got.at_run
 
-module _ (text : List ℕ) (s : Shape) (pattern first selves earlies : List ℕ) (left : ℕ)
-    (asked : SweepAt text s pattern first selves earlies) (beside : left < across s) where
-  pub pattern_at : PatternAt s pattern first selves earlies
+module _ (text : List ℕ) (s : Shape) (pattern first : List ℕ) (own : List FirstEnd) (left : ℕ)
+    (asked : SweepAt text s pattern first own) (beside : left < across s) where
+  pub pattern_at : PatternAt s pattern first own
   pattern_at =
       record {
         sides = sides_of_lem text s pattern asked.shape asked.cells;
@@ -65,13 +66,11 @@ module _ (text : List ℕ) (s : Shape) (pattern first selves earlies : List ℕ)
       }
 
   -- the same with the own ends as they are by now
-  pub sweep_with : (selves' earlies' : List ℕ) → OwnSoFar pattern s.width (down s) selves' earlies'
-      → SweepAt text s pattern first selves' earlies'
-  sweep_with selves' earlies' h =
-      record { shape = asked.shape; cells = asked.cells; places = asked.places; owns = h }
+  pub sweep_with : (own' : List FirstEnd) → OwnSoFar pattern s.width (down s) own' → SweepAt text s pattern first own'
+  sweep_with own' h = record { shape = asked.shape; cells = asked.cells; places = asked.places; owns = h }
 
   pub run_first : (last : List ℕ) → Older 1 last
-      → RunAt text (column_strip s left) pattern last 0 0 0 s.height
+      → RunAt text (column_strip s left) pattern last (record { row = 0; reached = 0 }) 0 s.height
   run_first last o =
       let z : 0 * s.width ≡ 0 = zero-mul s.width in
       record {
@@ -83,46 +82,44 @@ module _ (text : List ℕ) (s : Shape) (pattern first selves earlies : List ℕ)
             (strip_symbols text (column_strip s left)) 0 last o);
       }
 
-  module _ (last : List ℕ) (row reached top : ℕ) (inside : top < down s)
-      (here : RunAt text (column_strip s left) pattern last row reached top s.height)
+  module _ (last : List ℕ) (run : Run) (top : ℕ) (inside : top < down s)
+      (here : RunAt text (column_strip s left) pattern last run top s.height)
     where
-      rows_apart : row * s.width + (top - row) * s.width ≡ top * s.width
+      rows_apart : run.row * s.width + (top - run.row) * s.width ≡ top * s.width
       rows_apart =
-          let e : row + (top - row) ≡ top = omega (arith, here.past) in
-          sym (add-mul row (top - row) s.width) ∙ ap (λ (x : ℕ). x * s.width) e
+          let e : run.row + (top - run.row) ≡ top = omega (arith, here.past) in
+          sym (add-mul run.row (top - run.row) s.width) ∙ ap (λ (x : ℕ). x * s.width) e
 
-      pub row_small : row ≤ 255
+      pub row_small : run.row ≤ 255
       row_small = omega (arith, here.past, inside, asked.shape)
 
-      pub run_asks : (top * s.width < reached → reached - row * s.width ≤ get_or selves 0 0)
-          → NextAt text (column_strip s left) pattern first last selves earlies row reached top s.height
+      pub run_asks : (top * s.width < run.reached → run.reached - run.row * s.width ≤ (own_at own 0).end)
+          → NextAt text (column_strip s left) pattern first last own run top s.height
       run_asks made =
           record {
             strip = strip_of s left (length text) asked.shape beside;
             down = omega (arith, asked.shape.sized.fitting.height_le);
             cells = omega (arith, asked.cells);
             places = asked.places;
-            run = here;
-            selves_long = asked.owns.selves_long;
-            earlies_long = asked.owns.earlies_long;
+            at_run = here;
             self = λ h. record {
-              cells = get_or selves 0 0;
+              cells = (own_at own 0).end;
               enough = made h;
-              own_end = asked.owns.each (top - row) (omega arith) (omega (arith, made h, rows_apart));
+              own_end = asked.owns.each (top - run.row) (omega arith) (omega (arith, made h, rows_apart));
             };
           }
 
       -- nothing of the window was read
-      pub run_anew : reached ≤ top * s.width
+      pub run_anew : run.reached ≤ top * s.width
           → ReachAt text (column_strip s left) pattern first last top s.height top 0 × (top * s.width ≤ 65025)
       run_anew h =
           let asks = run_asks (λ x. absurd (omega (arith, x, h))) in (
-            reach_anew text (column_strip s left) pattern first last selves earlies row reached top s.height asks h,
-            top_small text (column_strip s left) pattern first last selves earlies row reached top s.height asks,
+            reach_anew text (column_strip s left) pattern first last own run top s.height asks h,
+            top_small text (column_strip s left) pattern first last own run top s.height asks,
           )
 
       module _ (r : Step) (last' : List ℕ)
-          (got : NextIs text (column_strip s left) pattern row top s.height r last') where
+          (got : NextIs text (column_strip s left) pattern run.row top s.height r last') where
         window_is : suffix (strip_symbols text (column_strip s left)) (top * s.width)
             ≡ window_at text s.columns top left s.width
         window_is =

@@ -1,7 +1,7 @@
 -- Window after window, strip after strip: the flags above are the truth, and so is the next one, or it is not, and then
 -- all of them are not. What tells a window's flag: two cells (`refused_flag`), or its first end (`ended_flag`).
 -- Assumes nothing.
-use Rattle.std.specs.Prelude.{◌≡◌, refl, Bool, true, false, List, ℕ, ◌+◌, ◌*◌, ◌≤◌, ◌<◌, eqb, ltb, length, get_or}
+use Rattle.std.specs.Prelude.{◌≡◌, Bool, true, false, List, ℕ, ◌+◌, ◌*◌, ◌≤◌, ◌<◌, ltb, length, get_or}
 use Rattle.std.proofs.Common.{sym, ◌∙◌, ap, arith, lt-ltb}
 use Rattle.theory.specs.Test.{pick, Tested, holds, fails}
 use Rattle.theory.specs.Test.Laws.{eq_tested, is_true, is_false, says_true, says_false, pick_true}
@@ -15,7 +15,7 @@ use Rattle.grid.specs.Strips.{strip_symbols}
 use Rattle.prefixes.specs.Prefixes.{suffix}
 use Rattle.prefixes.specs.Prefixes.Ends.{inside_earlier}
 use Rattle.sieve.specs.Sieve.{Differs}
-use Rattle.sweep.specs.Sweep.{NextIs, SweepAt, column_strip}
+use Rattle.sweep.specs.Sweep.{NextIs, column_strip}
 use Rattle.sweep.specs.declared.steps.Step.{Step}
 use Rattle.flags.specs.Flags.{flags_truth}
 use Rattle.flags.specs.Flags.Laws.{flags_true_tested}
@@ -97,12 +97,12 @@ module _ (text pattern : List ℕ) (s : Shape) (flags : List ℕ) where
   strips_none left h = absurd (omega arith)
 
   -- one strip more
-  pub strips_more : (left : ℕ) → StripsTrue text pattern s flags left → (truth : Bool) → truth ≡ true
-      → truth ≡ column_true text pattern s left flags → StripsTrue text pattern s flags (left + 1)
-  strips_more left before truth r here j h = go (eq_tested j left)
+  pub strips_more : (left : ℕ) → StripsTrue text pattern s flags left → true ≡ column_true text pattern s left flags
+      → StripsTrue text pattern s flags (left + 1)
+  strips_more left before here j h = go (eq_tested j left)
     where
       go : {b : Bool} → Tested (j ≡ left) b → TrueTo text pattern s j flags (down s)
-      go (holds e) = rw e (says_true (column_tested text pattern s left flags) (sym here ∙ r))
+      go (holds e) = rw e (says_true (column_tested text pattern s left flags) (sym here))
       go (fails n) = before j (omega arith)
 
   pub strips_all : (n : ℕ) → 0 < across s → across s ≤ n → StripsTrue text pattern s flags n
@@ -114,10 +114,10 @@ module _ (text pattern : List ℕ) (s : Shape) (flags : List ℕ) where
           let p = (windows_covered s some).place k l in
           rw (← p.2) (all ((windows_covered s some).row k) (omega (arith, p.0)) ((windows_covered s some).column k) p.1)
 
-  pub strips_wrong : (left : ℕ) → left < across s → (truth : Bool) → truth ≡ false
-      → truth ≡ column_true text pattern s left flags → false ≡ flags_truth (asked text pattern s) flags
-  strips_wrong left h truth r here =
+  pub strips_wrong : (left : ℕ) → left < across s → false ≡ column_true text pattern s left flags
+      → false ≡ flags_truth (asked text pattern s) flags
+  strips_wrong left h here =
       sym
       (is_false (flags_true_tested (asked text pattern s) flags)
-      (λ all. says_false (column_tested text pattern s left flags) (sym here ∙ r)
+      (λ all. says_false (column_tested text pattern s left flags) (sym here)
       (λ top l. all (top * across s + left) (place_lt (across s) (down s) top left h l))))

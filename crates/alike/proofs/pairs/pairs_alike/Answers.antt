@@ -1,80 +1,54 @@
--- `pairs::pairs_alike` meets its contract. The invariant: what is added up is how many of the pairs passed are not alike;
--- none is exactly where every one is alike (`count-every`).
+-- `pairs::pairs_alike` meets its contract. The invariant: what is added up is how many of the pairs passed are not
+-- alike; none is exactly where every one is alike (`count-every`).
 -- Assumes nothing.
-use mathlib.Core.Path.{◌≡◌, ◌∙◌, ap}
-use mathlib.Core.Bool.{not}
-use Prim.Native.Nat.{ℕ, ◌+◌, ◌<◌}
-use native.Mathlib.Omega.{arith}
-use lib.Dec.{eqb}
+use Rattle.std.proofs.Common.{◌≡◌, ◌+◌, ◌-◌, ◌<◌, ℕ, ap, ◌∙◌, not, arith, nat_eq, get_or, take, drop, true, false}
+use Rattle.std.proofs.Common.{length-take, length-drop, get_or-drop, get_or-take}
 use Rattle.theory.specs.Test.Laws.{eq_tested, is_true, is_false}
 use Rattle.theory.specs.Count.{count}
 use Rattle.theory.specs.Count.Laws.{count_le}
 use Rattle.theory.specs.Count.Steps.{count-zero, count-every, count_hit, count_miss}
-use Rattle.alike.specs.Pairs.{alike_at}
+use Rattle.alike.specs.declared.pairs.Pair.{Pair}
+use Rattle.alike.specs.Pairs.{no_pair}
 use Rattle.alike.proofs.pairs.pairs_alike.Goals as goal
-use Rattle.alike.proofs.pairs.pairs_alike.Goals.{then-text-corner, else-text-corner}
-use Rattle.alike.proofs.pairs.pairs_alike.Goals.{In-loop-i}
+use Rattle.alike.proofs.pairs.pairs_alike.Goals.{After-loop-pair, In-loop-pair, then-text-corner, else-text-corner}
 
--- there are eight pairs
-inside : (c : In-loop-i) → c.args.from + c.loop-i.i < 8
-inside c = omega (arith, c.loop-i-test.true, c.requires.1)
+few : (c : In-loop-pair) → c.loop-pair.pair-index < 4
+few c = omega (arith, c.loop-pair-test.true, length-take {A = Pair}, length-drop {A = Pair})
 
-pub loop-i-init : goal.loop-i-init
-loop-i-init c = (omega arith, count-zero _)
+all : (c : After-loop-pair) → c.loop-pair.pair-index ≡ 4
+all c = omega (arith, c.loop-pair.auto, c.loop-pair-test.false, length-take {A = Pair}, length-drop {A = Pair})
 
-pub overflow_add-k : goal.overflow_add-k
-overflow_add-k c = omega (arith, c.loop-i-test.true, c.requires.1)
+-- pair i of those that are looked at
+part_at : (c : In-loop-pair)
+    → get_or (take (c.args.from + 4 - c.args.from) (drop c.args.from c.args.pairs.now)) c.loop-pair.pair-index no_pair
+    ≡ get_or c.args.pairs.now (c.args.from + c.loop-pair.pair-index) no_pair
+part_at c =
+    get_or-take _ (drop c.args.from c.args.pairs.now) c.loop-pair.pair-index no_pair (omega (arith, few c))
+    ∙ get_or-drop c.args.from c.args.pairs.now c.loop-pair.pair-index no_pair
 
-pub offset_bounds-earlier-k : goal.offset_bounds-earlier-k
-offset_bounds-earlier-k c = omega (arith, c.loop-i-test.true, c.requires.1)
-
-pub bounds-earlier-k : goal.bounds-earlier-k
-bounds-earlier-k c = inside (goal.at.bounds-earlier-k c).In-loop-i
-
-pub overflow_add-corner : goal.overflow_add-corner
-overflow_add-corner c = omega (arith, c.requires.0.small, c.requires.0.earlier_in _ (inside (goal.at.overflow_add-corner c).In-loop-i))
-
-pub bounds-text-corner : goal.bounds-text-corner
-bounds-text-corner c = c.requires.0.earlier_in _ (inside (goal.at.bounds-text-corner c).In-loop-i)
-
-pub offset_bounds-later-k : goal.offset_bounds-later-k
-offset_bounds-later-k c = omega (arith, inside (goal.at.offset_bounds-later-k c).In-loop-i)
-
-pub bounds-later-k : goal.bounds-later-k
-bounds-later-k c = inside (goal.at.bounds-later-k c).In-loop-i
-
-pub overflow_add-corner-in-loop-i : goal.overflow_add-corner-in-loop-i
-overflow_add-corner-in-loop-i c = omega (arith, c.requires.0.small, c.requires.0.later_in _ (inside (goal.at.overflow_add-corner-in-loop-i c).In-loop-i))
-
-pub bounds-text-corner-in-loop-i : goal.bounds-text-corner-in-loop-i
-bounds-text-corner-in-loop-i c = c.requires.0.later_in _ (inside (goal.at.bounds-text-corner-in-loop-i c).In-loop-i)
+pub loop-pair-init : goal.loop-pair-init
+loop-pair-init c = count-zero _
 
 pub overflow_add-unlike : goal.overflow_add-unlike
 overflow_add-unlike c =
-    let l = c.loop-i in
+    omega (arith, c.loop-pair.invariant, few (goal.at.overflow_add-unlike c).In-loop-pair, count_le)
+
+pub loop-pair-preserved : goal.loop-pair-preserved
+loop-pair-preserved c =
+    let l = c.loop-pair in
     let a = c.args in
-    omega (
-      arith,
-      l.invariant.1,
-      l.invariant.0,
-      count_le (λ k. not (alike_at a.text.now a.corner a.earlier.now a.later.now (a.from + k))) l.i,
-    )
-
-pub overflow_add-i : goal.overflow_add-i
-overflow_add-i c = omega (arith, c.loop-i-test.true)
-
-pub loop-i-smaller : goal.loop-i-smaller
-loop-i-smaller c = omega (arith, c.loop-i-test.true)
-
-pub loop-i-preserved : goal.loop-i-preserved
-loop-i-preserved c =
-    let l = c.loop-i in (
-      omega (arith, c.loop-i-test.true),
-      elim c.if-text-corner.branch [ then-text-corner w ↦ w.unlike-is ∙ count_hit _ l.i _ l.invariant.1 (ap not (is_false (eq_tested _ _) w.if-text-corner.true)) | else-text-corner w ↦ w.unlike-is ∙ count_miss _ l.i _ l.invariant.1 (ap not (is_true (eq_tested _ _) w.if-text-corner.false)) ],
-    )
+    let e = part_at (goal.at.loop-pair-preserved c).In-loop-pair in
+    elim c.if-text-corner.branch [
+      | then-text-corner w ↦
+          w.unlike-is
+          ∙ count_hit _ l.pair-index _ l.invariant
+          (ap not {y = false} (rw (← e) (is_false (eq_tested _ _) w.if-text-corner.true)))
+      | else-text-corner w ↦
+          w.unlike-is
+          ∙ count_miss _ l.pair-index _ l.invariant
+          (ap not {y = true} (rw (← e) (is_true (eq_tested _ _) w.if-text-corner.false)))
+    ]
 
 pub returns : goal.returns
 returns c =
-    let l = c.loop-i in
-    let all : l.i ≡ 4 = omega (arith, c.loop-i-test.false, l.invariant.0) in
-    ap (λ (n : ℕ). eqb n 0) (l.invariant.1 ∙ ap (count _) all) ∙ count-every _ 4
+    ap (λ (n : ℕ). nat_eq n 0) (c.loop-pair.invariant ∙ ap (count _) (all c)) ∙ count-every _ 4

@@ -1,50 +1,26 @@
--- `one_window::one_window` meets its contract: refused as its outcome says, or answered by comparing.
+-- `one_window::one_window` meets its contract: what its outcome accepts is answered by comparing, since then the window
+-- lies in the text and the pattern has its size (`placed`).
 -- Assumes nothing.
-use mathlib.Core.Path.{◌≡◌}
-use mathlib.Core.List.{[]}
-use native.Mathlib.Omega.{arith}
-use Rattle.theory.specs.Bytes.{Bytes}
-use Rattle.refusals.specs.Said.{accepts}
-use Rattle.refusals.specs.Said.Laws.{passed_said}
-use Rattle.shapes.specs.Questions.{Question, ask}
-use Rattle.matching.specs.Compare.{place_said}
-use Rattle.answering.specs.Accepted.{place_passed, window_placed}
-use Rattle.matching.specs.Compare.Verdicts.{told_refused, told_answered}
+use Rattle.std.proofs.Common.{◌≡◌, ◌*◌, length, sym}
+use Rattle.shapes.specs.Questions.{question_in}
+use Rattle.view.specs.Places.{Placed}
+use Rattle.answering.specs.Accepted.{place_of, place_passed, window_placed}
+use Rattle.matching.specs.Compare.Verdicts.{told_answered}
 use Rattle.answering.proofs.one_window.one_window.Goals as goal
-use Rattle.answering.proofs.one_window.one_window.Goals.{After-window_outcome-outcome, In-Accepted, Start}
+use Rattle.answering.proofs.one_window.one_window.Goals.{In_ok-window_outcome}
 
--- the question
-abbrev asking : Start → Question
-asking o = let a = o.args in ask a.text.now a.rows a.columns a.pattern.now a.height a.width
+-- the window lies in the text, and the pattern has its size
+placed : (c : In_ok-window_outcome) → let a = c.args in
+    Placed a.q.text.now (place_of (question_in a.q) a.row a.column)
+    × (length a.q.pattern.now ≡ a.q.shape.height * a.q.shape.width)
+placed c = window_placed _ _ _ (place_passed _ _ _ _ (sym c.in_ok-window_outcome.ensures))
 
--- text and pattern are bytes, as their types say
-bytes : (c : After-window_outcome-outcome) → Bytes c.args.text.now × Bytes c.args.pattern.now
-bytes c = (
-  (λ i. omega (arith, c.type_inv.text i)),
-  (λ i. omega (arith, c.type_inv.pattern i)),
-)
+pub invariant_of-window : goal.invariant_of-window
+invariant_of-window c = record { placed = (placed (goal.at.invariant_of-window c).In_ok-window_outcome).0 }
 
--- nothing is refused
-good : (c : In-Accepted) → place_said (asking (goal.at.In-Accepted c).Start) c.args.row c.args.column ≡ accepts []
-good c = passed_said _ _ c.in-Accepted.is c.window_outcome-outcome.ensures
+pub invariant_of-compare : goal.invariant_of-compare
+invariant_of-compare c =
+    record { fitting = (placed (goal.at.invariant_of-compare c).In_ok-window_outcome).1; bytes = c.args.q.bytes.1 }
 
-pub compare-requires : goal.compare-requires
-compare-requires c =
-    window_placed (asking (goal.at.compare-requires c).Start) c.args.row c.args.column
-    (place_passed (asking (goal.at.compare-requires c).Start) c.args.row c.args.column [] (good c))
-
-pub returns-in-Refused : goal.returns-in-Refused
-returns-in-Refused c =
-    record {
-      result_value = told_refused (asking (goal.at.returns-in-Refused c).Start) c.args.row c.args.column _ _ _ c.in-Refused.is
-          c.window_outcome-outcome.ensures c.empty-none.ensures;
-      bytes = bytes (goal.at.returns-in-Refused c).After-window_outcome-outcome;
-    }
-
-pub returns-in-Accepted : goal.returns-in-Accepted
-returns-in-Accepted c =
-    record {
-      result_value = told_answered (asking (goal.at.returns-in-Accepted c).Start) c.args.row c.args.column _ (good (goal.at.returns-in-Accepted c).In-Accepted) c.compare.ensures.verdict_value
-          c.compare.ensures.bijection_value;
-      bytes = bytes (goal.at.returns-in-Accepted c).After-window_outcome-outcome;
-    }
+pub returns-clause-answer : goal.returns-clause-answer
+returns-clause-answer c = told_answered _ _ _ _ (sym c.in_ok-window_outcome.ensures) c.compare.ensures

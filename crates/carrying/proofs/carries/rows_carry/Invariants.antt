@@ -3,4 +3,4 @@ use Rattle.inheriting.specs.Carries.{RowsCarried}
 use Rattle.carrying.proofs.carries.rows_carry.Given as goal
 
 abbrev pub invariant-loop-i : goal.invariant-loop-i
-invariant-loop-i l = RowsCarried l.text l.v l.pattern l.corner l.offsets l.i l.start l.from
+invariant-loop-i l = RowsCarried l.m l.i

@@ -1,29 +1,19 @@
--- `windows::window_cell` meets its contract: the place is formed as `place` is, and fits since corner and width are
--- bytes.
+-- `windows::window_cell` meets its contract: the place is formed as `place` is, and the text is asked for it.
 -- Assumes nothing.
-use mathlib.Core.Path.{refl}
-use native.Mathlib.Omega.{arith}
-use Prim.Native.Nat.{◌+◌, ◌*◌, ◌≤◌}
-use Rattle.shapes.specs.Shapes.Laws.{product_le}
-use Rattle.cells.specs.Windows.Laws.{cell_inside, cell_past_end}
+use Rattle.std.proofs.Common.{◌≡◌, ℕ, List, Option, Some, None, ◌∙◌, sym, refl, slice_get, option_copied}
+use Rattle.std.proofs.lemmas.Option.{slice_get_past, slice_get_read}
+use Rattle.std.specs.Slice.{IsItemAt}
+use denote.Ref.{Bor}
+use Rattle.cells.specs.Windows.Laws.{cell_read}
 use Rattle.cells.proofs.windows.window_cell.Goals as goal
-use Rattle.cells.proofs.windows.window_cell.Goals.{Start}
 
--- the row starts below 510 × 255
-row_start_le : (c : Start) → (c.args.row + c.args.i) * c.args.row_width ≤ 510 * 255
-row_start_le c = product_le (c.args.row + c.args.i) c.args.row_width 510 255 (omega arith) (omega arith)
+-- what `get` lends, copied, is the item or none
+got : (xs : List ℕ) (i : ℕ) (r : Option (Bor ℕ)) → IsItemAt xs i r → option_copied r ≡ slice_get xs i
+got xs i None h = sym (slice_get_past xs i h.3)
+got xs i (Some x) h = sym (slice_get_read xs _ i x.now refl h.3.0 h.1)
 
-pub overflow_mul-at : goal.overflow_mul-at
-overflow_mul-at c = omega (arith, row_start_le c)
-
-pub overflow_add-at-2 : goal.overflow_add-at-2
-overflow_add-at-2 c = omega (arith, row_start_le c)
-
-pub overflow_add-at-3 : goal.overflow_add-at-3
-overflow_add-at-3 c = omega (arith, row_start_le c)
-
-pub returns-then-at-text : goal.returns-then-at-text
-returns-then-at-text c = cell_inside _ _ _ _ _ _ _ refl c.if-at-text.true
-
-pub returns-else-at-text : goal.returns-else-at-text
-returns-else-at-text c = cell_past_end _ _ _ _ _ _ _ refl c.if-at-text.false
+pub returns : goal.returns
+returns c =
+    c.copied.ensures ∙ got _ _ _ c.get.ensures.lookup
+    ∙ rw (c.from.ensures, c.from-2.ensures, c.from-3.ensures, c.from-4.ensures, c.from-5.ensures)
+    (cell_read _ _ _ _ _ _ _ refl)

@@ -20,7 +20,7 @@ pub loop-top-preserved : goal.loop-top-preserved
 loop-top-preserved c = record {
   tracks = λ h. c.slide.ensures (omega arith);
   written =
-      rw (add-one c.loop-top.top)
+      rw (c.across-width.ensures, add-one c.loop-top.top)
       (stored_more (count_in c.args.text.now c.args.s) (λ top. top * across c.args.s + c.args.left) _ _ _ _
       c.loop-top.invariant.written
       (count_at c.args.text.now c.args.s c.loop-top.top c.args.left _ c.requires.1

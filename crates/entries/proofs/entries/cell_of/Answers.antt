@@ -1,6 +1,6 @@
 -- `entries::cell_of` meets its contract: a position of a window is small, and its row and column are bytes.
 -- Assumes nothing.
-use native.Mathlib.Omega.{arith}
+use Rattle.std.proofs.Common.{arith}
 use Rattle.shapes.specs.Shapes.Laws.{product_le}
 use Rattle.entries.specs.Listing.Entries.{row_byte, column_byte}
 use Rattle.entries.proofs.entries.cell_of.Goals as goal

@@ -1,13 +1,25 @@
 -- `pair` fixes the number and the bijection, of the bijection that the columns held; `write_answer` hands both over.
 -- Assumes nothing.
-use mathlib.Core.Path.{◌∙◌, ap}
+use Rattle.std.proofs.Common.{◌≡◌, ◌∙◌, ap, sym}
 use Rattle.refusals.specs.Said.{said_number}
-use Rattle.mapping.specs.Bijections.{Renamed, pair_of}
+use Rattle.mapping.specs.Bijections.{Renamed, renamed, pair_of}
 use Rattle.mapping.specs.declared.bijections.Bijection.{Bijection}
+use Rattle.values.specs.Bijections.{from_columns}
 use Rattle.exports.proofs.bijections.colourway_bijection_pair.Goals as goal
+use Rattle.exports.proofs.bijections.colourway_bijection_pair.Goals.{After-write_answer}
+
+-- of the columns that were lent
+answer : (c : After-write_answer)
+    → renamed (from_columns c.args.forward.now c.args.backward.now) c.pair-paired.result
+    ≡ (λ (b : Bijection). pair_of b c.args.a c.args.c) (from_columns c.args.forward.now c.args.backward.now)
+answer c =
+    ap (λ (b : Bijection). renamed b c.pair-paired.result) (sym c.bijection_in.ensures)
+    ∙ c.pair-paired.ensures
+    ∙ ap (λ (b : Bijection). pair_of b c.args.a c.args.c) c.bijection_in.ensures
 
 pub returns : goal.returns
 returns c =
-    let answer = c.pair-answer.ensures in
-    let held = c.bijection_in.ensures in
-    let args = c.args in record { value = c.write_answer.ensures.value ∙ ap (λ (r : Renamed). said_number r.said) (answer ∙ ap (λ (b : Bijection). pair_of b args.a args.c) held); backward_after = c.write_answer.ensures.backward_after ∙ ap (λ (r : Renamed). r.bijection) (answer ∙ ap (λ (b : Bijection). pair_of b args.a args.c) held) }
+    record {
+      number = c.write_answer.ensures.number ∙ ap (λ (r : Renamed). said_number r.said) (answer c);
+      bijection_after = c.write_answer.ensures.bijection_after ∙ ap (λ (r : Renamed). r.bijection) (answer c);
+    }

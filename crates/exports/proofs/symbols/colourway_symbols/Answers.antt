@@ -1,6 +1,6 @@
 -- The words are those of the set that `symbol_set` answers.
 -- Assumes nothing.
-use mathlib.Core.Path.{◌∙◌, ap}
+use Rattle.std.proofs.Common.{◌∙◌, ap}
 use Rattle.values.specs.Symbols.{word_list}
 use Rattle.exports.proofs.symbols.colourway_symbols.Goals as goal
 

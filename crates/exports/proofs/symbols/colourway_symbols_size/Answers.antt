@@ -1,6 +1,6 @@
 -- `size` answers it of the set that the words hold.
 -- Assumes nothing.
-use mathlib.Core.Path.{◌∙◌, ap}
+use Rattle.std.proofs.Common.{◌∙◌, ap}
 use Rattle.sets.specs.Symbols.{size_of}
 use Rattle.exports.proofs.symbols.colourway_symbols_size.Goals as goal
 

@@ -1,6 +1,6 @@
 -- The words are those of the set that `without` makes of the set that the words held.
 -- Assumes nothing.
-use mathlib.Core.Path.{◌∙◌, ap}
+use Rattle.std.proofs.Common.{◌∙◌, ap}
 use Rattle.sets.specs.Symbols.{without_symbol}
 use Rattle.sets.specs.declared.symbols.Symbols.{Symbols}
 use Rattle.values.specs.Symbols.{word_list}

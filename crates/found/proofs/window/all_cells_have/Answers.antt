@@ -5,11 +5,11 @@ use Rattle.std.proofs.Common.{sym, ◌∙◌, arith}
 use Rattle.pairs.specs.Pairs.{image_all, image_other}
 use Rattle.found.proofs.window.all_cells_have.Goals as goal
 
-pub returns-then-symbol_at-b : goal.returns-then-symbol_at-b
-returns-then-symbol_at-b c =
+pub returns-then-symbol-b : goal.returns-then-symbol-b
+returns-then-symbol-b c =
     sym
-    (image_other _ _ _ _ c.loop-p.p _ (omega (arith, c.requires.1, c.loop-p-test.true)) c.if-x-a.true
-    (λ e. c.if-symbol_at-b.true (c.symbol_at.ensures ∙ e)))
+    (image_other _ _ _ _ c.loop-p.p _ (omega (arith, c.args.c.fitting, c.loop-p-test.true)) c.if-x-a.true
+    (λ e. c.if-symbol-b.true (c.symbol.ensures ∙ e)))
 
 pub returns : goal.returns
-returns c = sym (image_all _ _ _ _ c.loop-p.p _ (omega (arith, c.loop-p-test.false, c.requires.1)) c.loop-p.invariant)
+returns c = sym (image_all _ _ _ _ c.loop-p.p _ (omega (arith, c.loop-p-test.false, c.args.c.fitting)) c.loop-p.invariant)

@@ -4,7 +4,7 @@
 use Rattle.std.proofs.Common.{◌≡◌, ◌∙◌, [], refl, arith, rules}
 use Rattle.sets.specs.Symbols.{symbols_of}
 use Rattle.sets.specs.Symbols.Patterns.{listed_symbol}
-use Rattle.matching.specs.Compare.{cell_of_pattern, window_of, cell_count}
+use Rattle.matching.specs.Compared.{pattern_seen, window_seen, cells_seen}
 use Rattle.claims.specs.Claims.{Walk, pairs_from}
 use Rattle.pairs.specs.Pairs.{symbols_inside}
 use Rattle.pairs.specs.Pairs.Rising.{symbols_left_none, left_stopped, left_passed, marks_next}
@@ -14,20 +14,20 @@ use Rattle.found.proofs.window.check_pairs.Goals.{Start}
 -- the walk over all pairs
 abbrev whole : Start → Walk
 whole o =
-    let a = o.args in
-    pairs_from (cell_of_pattern a.pattern.now) (window_of a.text.now a.v) (cell_count a.v) a.listing.now
-    (symbols_of a.pattern.now) [] a.at
+    let c = o.args.w.images.compared in
+    pairs_from (pattern_seen c) (window_seen c) (cells_seen c) o.args.listing.now (symbols_of c.pattern.now) []
+    o.args.at
 
 pub plain_pairs-plain-requires : goal.plain_pairs-plain-requires
 plain_pairs-plain-requires c =
-    symbols_inside _ c.args.v c.args.pattern.now _ _ _ c.requires.0 _ c.requires.1
+    symbols_inside c.args.w.images _ c.requires.0
 
 pub loop-i-init : goal.loop-i-init
 loop-i-init c =
-    c.plain_pairs-plain.ensures.plain_to.each c.args.v c.args.pattern.now c.requires.0 c.requires.1 c.requires.2
+    c.plain_pairs-plain.ensures.plain_to.left c.requires.0 c.requires.1
 
 pub check_pair-requires : goal.check_pair-requires
-check_pair-requires c = (c.requires.0, (listed_symbol _ _ c.requires.1 c.loop-i.i c.loop-i-test.true).1)
+check_pair-requires c = (listed_symbol _ _ c.requires.0 c.loop-i.i c.loop-i-test.true).1
 
 pub returns-in_err-end : goal.returns-in_err-end
 returns-in_err-end c =
@@ -35,7 +35,8 @@ returns-in_err-end c =
     let e = c.check_pair.ensures i.before i.marked in
     let same : c.from_residual.result ≡ c.check_pair.result = search rules in record {
       answer = same
-          ∙ left_stopped _ _ _ _ _ _ (whole (goal.at.returns-in_err-end c).Start) _ _ _ i _ refl c.loop-i-test.true _ _ e
+          ∙ left_stopped _ _ _ _ _ _ (whole (goal.at.returns-in_err-end c).Start) _ _ _ i _ refl c.loop-i-test.true _
+          _ e
           _ c.in_err-end.was;
       older = marks_next _ _ e.older;
     }

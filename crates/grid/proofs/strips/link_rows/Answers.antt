@@ -1,11 +1,10 @@
 -- `strips::link_rows` meets its contract. The invariant: the rows passed are linked, and the last places are those
 -- before the next.
 -- Assumes nothing.
-use Rattle.std.proofs.Common.{◌≡◌, ◌*◌, ◌+◌, sym, subst, ℕ, List, length, arith}
+use Rattle.std.proofs.Common.{◌≡◌, ◌*◌, sym, length, arith}
 use Rattle.std.proofs.Math.Nat.{zero-mul}
-use Rattle.theory.specs.Store.{stored_rows}
 use Rattle.theory.specs.Store.Laws.{rows_none}
-use Rattle.grid.specs.Strips.{link, strip_symbols, LinkedRow}
+use Rattle.grid.specs.Strips.{strip_symbols, LinkedRow}
 use Rattle.grid.specs.Strips.Rows.{strip_row_at, linkable_row, next_places, next_links, last_places_none}
 use Rattle.grid.proofs.strips.link_rows.Goals as goal
 use Rattle.grid.proofs.strips.link_rows.Goals.{After-link_row}

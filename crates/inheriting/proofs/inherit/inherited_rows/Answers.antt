@@ -7,12 +7,12 @@ use Rattle.inheriting.proofs.inherit.inherited_rows.Goals as goal
 
 pub returns : goal.returns
 returns c =
-    record {
+    let w = c.args.c.window in record {
       inherited = (
         omega arith,
-        follows_lower c.args.text.now c.args.pattern.now c.args.v c.in-Some.above _ _ c.requires.0.some c.requires.1
-            (c.requires.2.tops_are.each c.args.v.column c.in-Some.above c.in-Some.is) (omega arith) refl (omega arith)
+        follows_lower w.text.now c.args.c.pattern.now w.place c.in-Some.above _ _ w.placed.some c.args.c.fitting
+            (c.requires.tops_are.each w.place.column c.in-Some.above c.in-Some.is) (omega arith) refl (omega arith)
             c.own_end-end.ensures.value (omega arith),
       );
-      above = above_made _ _ _ _ _ _ _ c.requires.2 _ c.own_end-end.ensures.own_ends_made;
+      above = above_made _ _ _ _ _ _ _ c.requires _ c.own_end-end.ensures.own_ends_made;
     }

@@ -4,12 +4,12 @@
 use Rattle.inheriting.specs.Inheritance.Laws.{own_ends_all}
 use Rattle.inheriting.proofs.inherit.own_end.Goals as goal
 
-pub returns-then-selves-gt0 : goal.returns-then-selves-gt0
-returns-then-selves-gt0 c =
-    let m = c.requires.1.made c.if-selves-gt0.true in
+pub returns-then-own-gt0 : goal.returns-then-own-gt0
+returns-then-own-gt0 c =
+    let m = c.requires.1.made c.if-own-gt0.true in
     record { value = m.each c.args.k c.requires.2; own_ends_made = m }
 
 pub returns : goal.returns
 returns c =
-    let m = own_ends_all _ _ _ _ _ c.requires.0 c.own_ends.ensures in
+    let m = own_ends_all _ _ _ _ c.requires.0 c.own_ends.ensures in
     record { value = m.each c.args.k c.requires.2; own_ends_made = m }

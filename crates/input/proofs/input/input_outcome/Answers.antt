@@ -1,25 +1,20 @@
 -- `input::input_outcome` meets its contract: 1 where a size is missing, and else what the sizes and the number of bytes
 -- behind them say.
 -- Assumes nothing.
-use mathlib.Core.Path.{◌∙◌}
-use native.Mathlib.Omega.{arith}
+use Rattle.std.proofs.Common.{◌≡◌, ℕ, List, ◌∙◌, ◌-◌, length, take, drop, arith}
+use Rattle.std.proofs.Math.ListN.{length-take, length-drop}
 use Rattle.input.specs.Input.Accepted.{sizes_missing, by_sizes}
 use Rattle.input.proofs.input.input_outcome.Goals as goal
 
-pub returns-then-input-lt4 : goal.returns-then-input-lt4
-returns-then-input-lt4 c = sizes_missing _ c.if-input-lt4.true
+-- what stands behind the sizes
+behind : (l : List ℕ) → length (take (length l - 4) (drop 4 l)) ≡ length l - 4
+behind l = rw (length-take (length l - 4) (drop 4 l), length-drop 4 l) (omega arith)
 
-pub overflow_cast-rows : goal.overflow_cast-rows
-overflow_cast-rows c = omega (arith, c.type_inv.input 0)
-
-pub overflow_cast-columns : goal.overflow_cast-columns
-overflow_cast-columns c = omega (arith, c.type_inv.input 1)
-
-pub overflow_cast-height : goal.overflow_cast-height
-overflow_cast-height c = omega (arith, c.type_inv.input 2)
-
-pub overflow_cast-width : goal.overflow_cast-width
-overflow_cast-width c = omega (arith, c.type_inv.input 3)
+pub returns-in_default : goal.returns-in_default
+returns-in_default c = sizes_missing _ c.in_default.len_below
 
 pub returns : goal.returns
-returns c = c.sizes_outcome.ensures ∙ by_sizes c.args.input.now c.if-input-lt4.false
+returns c =
+    c.sizes_outcome.ensures
+    ∙ rw (c.from.ensures, c.from-2.ensures, c.from-3.ensures, c.from-4.ensures, behind c.args.input.now)
+    (by_sizes c.args.input.now c.in-len4-up.len_at_least)

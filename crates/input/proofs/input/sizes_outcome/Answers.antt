@@ -1,48 +1,19 @@
--- `input::sizes_outcome` meets its contract: 2 by the sides, 8 and 3 by the cells, 4 by the size.
+-- `input::sizes_outcome` meets its contract: where 2 refuses nothing the products of the sides are small.
 -- Assumes nothing.
-use mathlib.Core.Path.{◌≡◌, sym, ◌∙◌}
-use mathlib.Core.Bool.{true}
-use native.Mathlib.Omega.{arith}
-use Prim.Native.Nat.{◌*◌}
-use mathlib.Core.List.{[]}
-use Rattle.refusals.specs.Said.{accepts}
-use Rattle.refusals.specs.Said.Laws.{passed_said}
-use Rattle.shapes.specs.Shapes.{good_sides_test}
-use Rattle.input.specs.Input.{cells_given_said}
-use Rattle.input.specs.Input.Sizes.{sides_refused, cells_small, cells_refused, size_refused, sizes_accepted}
+use Rattle.std.proofs.Common.{arith, sym, ◌*◌, ◌≤◌}
+use Rattle.shapes.specs.Questions.Laws.{sides_passed}
+use Rattle.input.specs.Input.Sizes.{cells_small}
 use Rattle.input.proofs.input.sizes_outcome.Goals as goal
-use Rattle.input.proofs.input.sizes_outcome.Goals.{Else-not-good_sides, In-Accepted}
+use Rattle.input.proofs.input.sizes_outcome.Goals.{In_ok-sides_outcome}
 
--- the sides are good
-good : (c : Else-not-good_sides) → let a = c.args in good_sides_test a.rows a.columns a.height a.width ≡ true
-good c = sym c.good_sides.ensures ∙ c.if-not-good_sides.false
+small : (c : In_ok-sides_outcome) → let s = c.args.s in (s.rows * s.columns ≤ 65025) × (s.height * s.width ≤ 65025)
+small c = cells_small _ _ _ _ (sides_passed _ _ (sym c.in_ok-sides_outcome.ensures))
 
--- and so are the cells
-passed : (c : In-Accepted) → let a = c.args in
-    cells_given_said (a.rows * a.columns) (a.height * a.width) a.given ≡ accepts []
-passed c = passed_said _ _ c.in-Accepted.is c.count_outcome-outcome.ensures
+pub overflow_mul-s : goal.overflow_mul-s
+overflow_mul-s c = omega (arith, (small (goal.at.overflow_mul-s c).In_ok-sides_outcome).0)
 
-pub returns-then-not-good_sides : goal.returns-then-not-good_sides
-returns-then-not-good_sides c = sides_refused _ _ _ _ _ (sym c.good_sides.ensures ∙ c.if-not-good_sides.true)
+pub overflow_mul-s-2 : goal.overflow_mul-s-2
+overflow_mul-s-2 c = omega (arith, (small (goal.at.overflow_mul-s-2 c).In_ok-sides_outcome).1)
 
-pub overflow_mul-rows : goal.overflow_mul-rows
-overflow_mul-rows c = omega (arith, (cells_small _ _ _ _ (good c)).0)
-
-pub overflow_mul-height : goal.overflow_mul-height
-overflow_mul-height c = omega (arith, (cells_small _ _ _ _ (good c)).1)
-
-pub count_outcome-outcome-requires : goal.count_outcome-outcome-requires
-count_outcome-outcome-requires c = cells_small _ _ _ _ (good c)
-
-pub returns-in_default : goal.returns-in_default
-returns-in_default c = cells_refused _ _ _ _ _ (good (goal.at.returns-in_default c).Else-not-good_sides) _ _ c.in_default.is c.count_outcome-outcome.ensures
-
-pub returns-then-not-window_fits : goal.returns-then-not-window_fits
-returns-then-not-window_fits c =
-    size_refused _ _ _ _ _ (good (goal.at.returns-then-not-window_fits c).Else-not-good_sides) (passed (goal.at.returns-then-not-window_fits c).In-Accepted)
-    (sym c.window_fits.ensures ∙ c.if-not-window_fits.true)
-
-pub returns : goal.returns
-returns c =
-    sizes_accepted _ _ _ _ _ (good (goal.at.returns c).Else-not-good_sides) (passed (goal.at.returns c).In-Accepted)
-    (sym c.window_fits.ensures ∙ c.if-not-window_fits.false)
+pub count_outcome-requires : goal.count_outcome-requires
+count_outcome-requires c = small (goal.at.count_outcome-requires c).In_ok-sides_outcome

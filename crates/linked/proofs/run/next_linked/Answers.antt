@@ -1,29 +1,14 @@
--- `run::next_linked` meets its contract: one law for each way out, which are that nothing of the window was looked at
--- yet, that it inherits its end, and that it goes on where the last one ended.
+-- `run::next_linked` meets its contract: one law for each way out, which are that the window inherits its end, and that
+-- it is compared from where it is known to agree.
 -- Assumes nothing.
-use mathlib.Core.Path.{refl}
-use native.Mathlib.Omega.{arith}
-use Rattle.linked.specs.Run.Laws.{anew_asks, window_anew, window_inherits, onward_asks, window_onward}
+use Rattle.std.proofs.Common.{arith}
+use Rattle.linked.specs.Run.Laws.{window_inherits, window_onward}
 use Rattle.linked.proofs.run.next_linked.Goals as goal
 
-pub linked_end-end-requires : goal.linked_end-end-requires
-linked_end-end-requires c = anew_asks _ _ _ _ _ _ _ _ c.requires
-
-pub returns-then-reached-start : goal.returns-then-reached-start
-returns-then-reached-start c = window_anew _ _ _ _ _ _ _ _ c.requires _ c.linked_end-end.ensures
-
-pub returns-then-own-reached : goal.returns-then-own-reached
-returns-then-own-reached c =
-    window_inherits _ _ _ _ _ _ _ _ c.requires
-    (omega (arith, c.if-reached-start.false)) _ refl (omega (arith, c.if-own-reached.true))
-
-pub linked_end-end-requires-2 : goal.linked_end-end-requires-2
-linked_end-end-requires-2 c =
-    onward_asks _ _ _ _ _ _ _ _ c.requires
-    (omega (arith, c.if-reached-start.false)) _ refl (omega (arith, c.if-own-reached.false))
+pub returns-then-end-from : goal.returns-then-end-from
+returns-then-end-from g c = window_inherits _ _ _ _ _ _ _ c.requires (omega arith)
 
 pub returns : goal.returns
-returns c =
-    window_onward _ _ _ _ _ _ _ _ c.requires
-    (omega (arith, c.if-reached-start.false)) _ refl (omega (arith, c.if-own-reached.false)) _
-    c.linked_end-end-2.ensures
+returns g c =
+    let from = c.saturating_sub-from.ensures in
+    window_onward _ _ _ _ _ _ _ c.requires (omega arith) _ (rw from at c.linked_end-end.ensures)

@@ -1,7 +1,7 @@
 -- `marks::symbol_set` meets its contract: the marks are the pattern's, so the set of what is marked is that of its
 -- symbols (`marked_set`).
 -- Assumes nothing.
-use mathlib.Core.Path.{◌∙◌}
+use Rattle.std.proofs.Common.{◌∙◌}
 use Rattle.sets.specs.Symbols.Marking.{marks_bits, marked_set}
 use Rattle.marking.proofs.marks.symbol_set.Goals as goal
 

@@ -1,12 +1,12 @@
 -- `marks::symbols_placed` meets its contract: the marks are the pattern's, whichever way they were found, so the set
 -- of what is marked is that of its symbols (`marked_set`).
 -- Assumes nothing.
-use mathlib.Core.Path.{◌∙◌}
+use Rattle.std.proofs.Common.{◌∙◌}
 use Rattle.sets.specs.Symbols.Marking.{marks_bits, marked_set}
 use Rattle.marking.proofs.marks.symbols_placed.Goals as goal
 
 pub symbols_marked-requires : goal.symbols_marked-requires
-symbols_marked-requires c = marks_bits _ _ c.marks_by-marks.ensures
+symbols_marked-requires g c = marks_bits _ _ c.marks_by-marks.ensures.marks
 
-pub returns : goal.returns
-returns c = c.symbols_marked.ensures ∙ marked_set _ _ c.marks_by-marks.ensures
+pub returns-clause-set : goal.returns-clause-set
+returns-clause-set g c = c.symbols_marked.ensures ∙ marked_set _ _ c.marks_by-marks.ensures.marks

@@ -1,16 +1,14 @@
--- What holds each time a loop of `found::write_row` begins a round, and what falls; `Answers.antt` says why.
-use mathlib.Core.Path.{◌≡◌}
-use Prim.Native.Nat.{◌+◌, ◌-◌, ◌*◌, ◌≤◌}
-use Rattle.placed.specs.Placing.{placed}
+-- What holds each time the loop of `found::write_row` begins a round; `Answers.antt` says why.
+use Rattle.std.proofs.Common.{◌≡◌, ◌+◌, ◌*◌}
 use Rattle.shapes.specs.Shapes.{across, down}
 use Rattle.listing.specs.Entries.Put.{Puts, start_of}
 use Rattle.passes.specs.Strips.{piece_of, FoundIn}
 use Rattle.passes.proofs.found.write_row.Given as goal
 
 abbrev pub invariant-loop-left : goal.invariant-loop-left
-invariant-loop-left l = (l.left ≤ l.wide) × (l.at ≡ start_of (piece_of l.text (placed l.pattern l.g) l.s) (l.top * across l.s + l.left)) ×
-    Puts (piece_of l.text (placed l.pattern l.g) l.s) (down l.s * across l.s) (FoundIn l.flags (l.top * across l.s) (l.top * across l.s + l.left)) l.initial.listing
-    l.listing
-
-abbrev pub decreases-loop-left : goal.decreases-loop-left
-decreases-loop-left l = l.wide - l.left
+invariant-loop-left g l =
+    let piece = piece_of l.text (g.P.Pattern.cells l.pattern) l.s in
+    let first = l.fn.top * across l.s in record {
+      place : l.at ≡ start_of piece (first + l.left);
+      puts : Puts piece (down l.s * across l.s) (FoundIn l.flags first (first + l.left)) l.initial.listing l.listing;
+    }

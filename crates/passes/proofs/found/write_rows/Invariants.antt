@@ -1,16 +1,14 @@
--- What holds each time a loop of `found::write_rows` begins a round, and what falls; `Answers.antt` says why.
-use mathlib.Core.Path.{◌≡◌}
-use Prim.Native.Nat.{◌-◌, ◌*◌, ◌≤◌}
-use Rattle.placed.specs.Placing.{placed}
+-- What holds each time the loop of `found::write_rows` begins a round; `Answers.antt` says why.
+use Rattle.std.proofs.Common.{◌≡◌, ◌*◌}
 use Rattle.shapes.specs.Shapes.{across, down}
 use Rattle.listing.specs.Entries.Put.{Puts, Heads, start_of}
 use Rattle.passes.specs.Strips.{piece_of, FoundIn}
 use Rattle.passes.proofs.found.write_rows.Given as goal
 
 abbrev pub invariant-loop-top : goal.invariant-loop-top
-invariant-loop-top l = (l.top ≤ l.tall) × (l.at ≡ start_of (piece_of l.text (placed l.pattern l.g) l.s) (l.top * across l.s))
-    × Heads (piece_of l.text (placed l.pattern l.g) l.s) (across l.s) l.top 0 l.heads ×
-    Puts (piece_of l.text (placed l.pattern l.g) l.s) (down l.s * across l.s) (FoundIn l.flags 0 (l.top * across l.s)) l.initial.listing l.listing
-
-abbrev pub decreases-loop-top : goal.decreases-loop-top
-decreases-loop-top l = l.tall - l.top
+invariant-loop-top g l =
+    let piece = piece_of l.text (g.P.Pattern.cells l.pattern) l.s in record {
+      place : l.at ≡ start_of piece (l.top * across l.s);
+      heads : Heads piece (across l.s) l.top 0 l.heads;
+      puts : Puts piece (down l.s * across l.s) (FoundIn l.flags 0 (l.top * across l.s)) l.initial.listing l.listing;
+    }

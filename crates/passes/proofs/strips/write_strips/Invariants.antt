@@ -1,16 +1,17 @@
--- What holds each time a loop of `strips::write_strips` begins a round, and what falls; `Answers.antt` says why.
-use Prim.Native.Nat.{◌-◌, ◌*◌, ◌≤◌}
-use Rattle.placed.specs.Placing.{placed}
+-- What holds each time the loop of `strips::write_strips` begins a round; `Answers.antt` says why.
+use Rattle.std.proofs.Common.{◌*◌}
 use Rattle.shapes.specs.Shapes.{across, down}
 use Rattle.sweep.specs.Sweep.{SweepAt}
-use Rattle.listing.specs.Entries.Put.{Puts, Heads}
+use Rattle.listing.specs.Entries.Put.{Heads, Puts}
 use Rattle.passes.specs.Strips.{piece_of, RefusedIn}
 use Rattle.passes.proofs.strips.write_strips.Given as goal
 
 abbrev pub invariant-loop-left : goal.invariant-loop-left
-invariant-loop-left l = (l.left ≤ l.wide) × SweepAt l.text l.s (placed l.pattern l.g) l.first l.selves l.earlies
-    × Heads (piece_of l.text (placed l.pattern l.g) l.s) (across l.s) (down l.s) l.left l.heads ×
-    Puts (piece_of l.text (placed l.pattern l.g) l.s) (down l.s * across l.s) (RefusedIn l.flags (across l.s) (down l.s) l.left) l.initial.listing l.listing
-
-abbrev pub decreases-loop-left : goal.decreases-loop-left
-decreases-loop-left l = l.wide - l.left
+invariant-loop-left g l =
+    let cells = g.P.Pattern.cells l.pattern in
+    let piece = piece_of l.text cells l.s in record {
+      sweep : SweepAt l.text l.s cells l.first l.own;
+      heads : Heads piece (across l.s) (down l.s) l.left l.heads;
+      puts : Puts piece (down l.s * across l.s) (RefusedIn l.flags (across l.s) (down l.s) l.left) l.initial.listing
+          l.listing;
+    }

@@ -11,12 +11,12 @@ write_decimal-end-requires c = first_room _ c.args.at (decimal c.args.n) (c.args
 pub put-requires : goal.put-requires
 put-requires c =
     let digits = c.write_decimal-end.ensures in
-    second_room _ c.args.at (decimal c.args.n) (c.args.mark ∷ []) _ refl c.requires _ _ digits.output_after digits.value
+    second_room _ c.args.at (decimal c.args.n) (c.args.mark ∷ []) _ refl c.requires _ _ digits.output_after digits.end
 
 pub returns : goal.returns
 returns c =
     let digits = c.write_decimal-end.ensures in
     let all =
     both-written _ c.args.at (decimal c.args.n) (c.args.mark ∷ []) _ refl c.requires _ _ digits.output_after
-    digits.value _ _ c.put.ensures.buffer_after c.put.ensures.answer in
-    record { value = all.0; output_after = all.1 }
+    digits.end _ _ c.put.ensures.buffer_after c.put.ensures.end in
+    record { end = all.0; output_after = all.1 }

@@ -32,7 +32,7 @@ loop-next-smaller c = let e = inside (goal.at.loop-next-smaller c).In-Ok in omeg
 pub loop-next-preserved : goal.loop-next-preserved
 loop-next-preserved c =
     read_printed _ _ _ _ _ _ c.loop-next.invariant c.requires.0 _ c.read.ensures _ _ c.in-Ok.is _ _
-    c.write_line-end.ensures.value c.write_line-end.ensures.output_after
+    c.write_line-end.ensures.end c.write_line-end.ensures.output_after
 
 pub returns : goal.returns
 returns c = reached_end _ _ _ _ _ _ c.loop-next.invariant c.requires.0 _ c.read.ensures _ c.in_default.is

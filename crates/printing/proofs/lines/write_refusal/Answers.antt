@@ -16,13 +16,13 @@ pub write_item-requires : goal.write_item-requires
 write_item-requires c =
     let n = c.args.number in
     second_room _ c.args.at refused_word (decimal n ++ (10 ∷ [])) _ (refusal_parts n) c.requires _ _
-    c.put-end.ensures.buffer_after c.put-end.ensures.answer
+    c.put-end.ensures.buffer_after c.put-end.ensures.end
 
 pub returns : goal.returns
 returns c =
     let n = c.args.number in
     let all =
     both-written _ c.args.at refused_word (decimal n ++ (10 ∷ [])) _ (refusal_parts n) c.requires _ _
-    c.put-end.ensures.buffer_after c.put-end.ensures.answer _ _ c.write_item.ensures.output_after
-    c.write_item.ensures.value in
-    record { value = all.0; output_after = all.1 }
+    c.put-end.ensures.buffer_after c.put-end.ensures.end _ _ c.write_item.ensures.output_after
+    c.write_item.ensures.end in
+    record { end = all.0; output_after = all.1 }

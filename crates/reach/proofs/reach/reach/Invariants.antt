@@ -1,10 +1,7 @@
--- What holds each time a loop of `reach::reach` begins a round, and what falls; `Answers.antt` says why.
-use Prim.Native.Nat.{◌+◌, ◌-◌, ◌*◌}
+-- What holds each time a loop of `reach::reach` begins a round; `Answers.antt` says why.
 use Rattle.reach.specs.Reach.Laws.{PartsTo}
 use Rattle.reach.proofs.reach.reach.Given as goal
 
-abbrev pub invariant-loop-at : goal.invariant-loop-at
-invariant-loop-at l = PartsTo l.text l.s l.pattern (l.top * l.s.width) ((l.top + l.height) * l.s.width) l.at l.column l.begin l.last
-
-abbrev pub decreases-loop-at : goal.decreases-loop-at
-decreases-loop-at l = l.stop - l.at
+abbrev pub invariant-loop-row : goal.invariant-loop-row
+invariant-loop-row g l =
+    PartsTo (g.T.Pattern.cells l.text) l.s (g.P.Pattern.cells l.pattern) l.top l.height l.row l.column l.last

@@ -1,38 +1,28 @@
 -- `rows::earlier_by` meets its contract: each way out is one arm of the choice between two first places.
 -- Assumes nothing.
-use mathlib.Core.Path.{sym, ◌∙◌}
-use Prim.Native.Nat.{◌-◌, ◌≤◌, ◌<◌}
-use borrow.Author.Tests.{lt-ltb, le-ltb}
-use lib.ListN.{get_or}
-use Rattle.theory.specs.Test.Laws.{pick_true, pick_false}
+use Rattle.std.proofs.Common.{◌≡◌, Bool, ℕ, ◌<◌, ◌-◌, min, ltb, get_or, sym, ◌∙◌, lt-ltb, le-ltb, arith}
+use Rattle.theory.specs.Test.{pick, Tested, holds, fails}
+use Rattle.theory.specs.Test.Laws.{pick_true, pick_false, lt_tested}
 use Rattle.prefixes.specs.State.{earlier_distance}
 use Rattle.rows.proofs.rows.earlier_by.Goals as goal
-use Rattle.rows.proofs.rows.earlier_by.Goals.{Else-a-b, Then-a-b}
 
--- the way out with the first place of the pattern's symbol is taken where that one is the lesser, else the other one
-lesser : (c : Then-a-b) → let a = c.args in
-    get_or a.first.now (get_or a.pattern.now a.p 0) 0
-    < get_or a.first.now (get_or a.pattern.now (a.near - 1 - a.start) 0) 0
-lesser c = rw (← c.plain_at.ensures, ← c.plain_at-2.ensures) c.if-a-b.true
-
-greater : (c : Else-a-b) → let a = c.args in
-    get_or a.first.now (get_or a.pattern.now (a.near - 1 - a.start) 0) 0
-    ≤ get_or a.first.now (get_or a.pattern.now a.p 0) 0
-greater c = rw (← c.plain_at.ensures, ← c.plain_at-2.ensures) c.if-a-b.false
+-- the choice is the lesser of the two
+lesser : (a b : ℕ) → min a b ≡ pick (ltb a b) a b
+lesser a b = go (lt_tested a b)
+  where
+    go : {t : Bool} → Tested (a < b) t → min a b ≡ pick t a b
+    go (holds h) = omega arith
+    go (fails h) = omega arith
 
 pub returns-then-near-start : goal.returns-then-near-start
 unfolding earlier_distance
-returns-then-near-start c =
-    rw c.plain_at.ensures (sym (pick_false _ _ (le-ltb _ _ c.if-near-start.true)))
-
-pub returns-then-a-b : goal.returns-then-a-b
-unfolding earlier_distance
-returns-then-a-b c =
-    rw c.plain_at.ensures
-    (sym (pick_true _ _ (lt-ltb _ _ c.if-near-start.false) ∙ pick_true _ _ (lt-ltb _ _ (lesser c))))
+returns-then-near-start g c =
+    rw (c.from.ensures, c.at.ensures) (sym (pick_false _ _ (le-ltb _ _ c.if-near-start.true)))
 
 pub returns : goal.returns
 unfolding earlier_distance
-returns c =
-    rw c.plain_at-2.ensures
-    (sym (pick_true _ _ (lt-ltb _ _ c.if-near-start.false) ∙ pick_false _ _ (le-ltb _ _ (greater c))))
+returns g c =
+    let first_of = λ (p : ℕ). get_or c.args.first.now (get_or (g.P.Pattern.cells c.args.pattern) p 0) 0 in
+    rw (c.min.ensures, c.from.ensures, c.at.ensures, c.from-2.ensures, c.at-2.ensures)
+    (lesser (first_of c.args.p) (first_of (c.args.near - 1 - c.args.start))
+    ∙ sym (pick_true _ _ (lt-ltb _ _ c.if-near-start.false)))

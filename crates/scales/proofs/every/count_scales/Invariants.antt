@@ -1,12 +1,10 @@
--- What holds each time a loop of `every::count_scales` begins a round, and what falls; `Answers.antt` says why.
-use Prim.Native.Nat.{◌-◌}
-use Rattle.shapes.specs.Questions.{asked}
+-- What holds each time the loop of `every::count_scales` begins a round; `Answers.antt` says why.
+use Rattle.shapes.specs.Questions.{question_in}
 use Rattle.flags.specs.Flags.{working}
 use Rattle.scales.specs.Every.{CountedTo}
 use Rattle.scales.proofs.every.count_scales.Given as goal
 
 abbrev pub invariant-loop-k : goal.invariant-loop-k
-invariant-loop-k l = CountedTo (asked l.text l.pattern l.s) (working l.initial.links l.initial.counts l.initial.flags) l.k (working l.links l.counts l.flags) l.found l.refused l.length
-
-abbrev pub decreases-loop-k : goal.decreases-loop-k
-decreases-loop-k l = l.largest - l.k
+invariant-loop-k l =
+    CountedTo (question_in l.q) (working l.initial.links l.initial.counts l.initial.flags) l.k
+    (working l.links l.counts l.flags) l.sums

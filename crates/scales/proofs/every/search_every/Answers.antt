@@ -1,34 +1,39 @@
--- `every::search_every` meets its contract: all scales are counted; then 11 (`every_counted`), or all are listed, for which
--- they are counted once more, and that leaves what the first time left (`every_written`).
+-- `every::search_every` meets its contract: all scales are counted; then 11 (`every_counted`), or all are listed, for
+-- which they are counted once more, and that leaves what the first time left (`every_written`).
 -- Assumes nothing.
-use mathlib.Core.Path.{◌≡◌, sym, ◌∙◌, ap, subst}
-use Prim.Native.Nat.{ℕ}
-use native.Mathlib.Omega.{arith}
-use lib.ListN.{length}
-use Rattle.refusals.specs.Said.{over_front}
-use Rattle.shapes.specs.Questions.{Question, asked}
+use Rattle.std.proofs.Common.{◌≡◌, Err, rules, ℕ, sym, ◌∙◌, ap, subst, arith}
+use Rattle.shapes.specs.Questions.{Question, question_in}
 use Rattle.flags.specs.Flags.{Work, rooms_of, working}
-use Rattle.scaled.specs.Scaled.{largest_of, found_to, refused_to, length_to, works_to, listings_to}
+use Rattle.scaled.specs.Scaled.{largest_of, works_to}
 use Rattle.scaled.specs.Scaled.Fit.{EveryRoom}
 use Rattle.scaled.specs.Scaled.Works.{works_room}
-use Rattle.scales.specs.Every.{every_counted, every_fits, every_written}
+use Rattle.scales.specs.Every.{totals_to, every_counted, every_fits, every_written}
 use Rattle.scales.proofs.every.search_every.Goals as goal
 use Rattle.scales.proofs.every.search_every.Goals.{After-count_scales-sums, Start}
 
 -- what is asked, and what is lent
 abbrev asking : Start → Question
-asking o = let a = o.args in asked a.text.now a.pattern.now a.s
+asking o = question_in o.args.q
 
 abbrev lent : Start → Work
-lent o = let a = o.args in working a.links.now a.counts.now a.flags.now
+lent o = working o.args.links.now o.args.counts.now o.args.flags.now
 
--- the largest scale
-largest : (c : After-count_scales-sums) → c.largest_scale-largest.result ≡ largest_of (asking (goal.at.After-count_scales-sums c).Start)
-largest c = c.largest_scale-largest.ensures
+-- what all scales add up to, and what counting leaves
+sums : (c : After-count_scales-sums) →
+    let q = asking (goal.at.After-count_scales-sums c).Start in
+    c.count_scales-sums.result ≡ totals_to q (largest_of q)
+sums c =
+    let q = asking (goal.at.After-count_scales-sums c).Start in
+    c.count_scales-sums.ensures.totals ∙ ap (totals_to q) c.largest_scale-largest.ensures
 
--- the length of all listings
-size : (c : After-count_scales-sums) → c.count_scales-sums.result.length ≡ length_to (asking (goal.at.After-count_scales-sums c).Start) (largest_of (asking (goal.at.After-count_scales-sums c).Start))
-size c = c.count_scales-sums.ensures.found_value.2 ∙ ap (length_to (asking (goal.at.After-count_scales-sums c).Start)) (largest c)
+works : (c : After-count_scales-sums) →
+    let o = (goal.at.After-count_scales-sums c).Start in
+    let new = c.count_scales-sums.new in
+    working new.links new.counts new.flags ≡ works_to (asking o) (largest_of (asking o)) (lent o)
+works c =
+    let o = (goal.at.After-count_scales-sums c).Start in
+    c.count_scales-sums.ensures.buffers
+    ∙ ap (λ (n : ℕ). works_to (asking o) n (lent o)) c.largest_scale-largest.ensures
 
 pub largest_scale-largest-requires : goal.largest_scale-largest-requires
 largest_scale-largest-requires c = c.requires.posed_is.sides
@@ -36,27 +41,34 @@ largest_scale-largest-requires c = c.requires.posed_is.sides
 pub count_scales-sums-requires : goal.count_scales-sums-requires
 count_scales-sums-requires c = (c.requires, c.largest_scale-largest.ensures)
 
+pub returns-in_err-listing_room_outcome : goal.returns-in_err-listing_room_outcome
+returns-in_err-listing_room_outcome c =
+    let p = goal.at.returns-in_err-listing_room_outcome c in
+    let s = p.After-count_scales-sums in
+    let why = c.in_err-listing_room_outcome.field-0.0 in
+    let is : c.from_residual.result ≡ Err why = search rules in
+    rw is
+    (every_counted (asking p.Start) (lent p.Start) c.args.listing.now c.requires _ (sums s) why
+    c.in_err-listing_room_outcome.ensures _ (works s))
+
 pub list_scales-requires : goal.list_scales-requires
 list_scales-requires c =
-    let q = asking (goal.at.list_scales-requires c).Start in
-    let w = lent (goal.at.list_scales-requires c).Start in
-    let works = c.count_scales-sums.ensures.flags_after ∙ ap (λ (n : ℕ). works_to q n w) (largest (goal.at.list_scales-requires c).After-count_scales-sums) in (
-      subst (λ (v : Work). EveryRoom q (rooms_of v)) (sym works) (works_room q w c.requires (largest_of q) (omega arith)),
-      largest (goal.at.list_scales-requires c).After-count_scales-sums,
-      rw (largest (goal.at.list_scales-requires c).After-count_scales-sums) (every_fits q w c.args.listing.now c.requires _ _ (size (goal.at.list_scales-requires c).After-count_scales-sums) c.listing_room_outcome-outcome.ensures c.in-Accepted.is),
+    let p = goal.at.list_scales-requires c in
+    let s = p.After-count_scales-sums in
+    let q = asking p.Start in
+    let w = lent p.Start in (
+      subst (λ (v : Work). EveryRoom q (rooms_of v)) (sym (works s))
+          (works_room q w c.requires (largest_of q) (omega arith)),
+      c.largest_scale-largest.ensures,
+      rw c.largest_scale-largest.ensures
+          (every_fits q w c.args.listing.now c.requires _ (sums s) c.in_ok-listing_room_outcome.ensures),
     )
 
-pub returns-in-Refused : goal.returns-in-Refused
-returns-in-Refused c =
-    let q = asking (goal.at.returns-in-Refused c).Start in
-    every_counted q (lent (goal.at.returns-in-Refused c).Start) c.args.listing.now c.requires _ _ (size (goal.at.returns-in-Refused c).After-count_scales-sums) c.listing_room_outcome-outcome.ensures _ _ c.in-Refused.is
-    (c.count_scales-sums.ensures.flags_after ∙ ap (λ (n : ℕ). works_to q n (lent (goal.at.returns-in-Refused c).Start)) (largest (goal.at.returns-in-Refused c).After-count_scales-sums))
-
-pub returns-in-Accepted : goal.returns-in-Accepted
-returns-in-Accepted c =
-    let q = asking (goal.at.returns-in-Accepted c).Start in
-    let w = lent (goal.at.returns-in-Accepted c).Start in
-    every_written q w c.args.listing.now c.requires _ _ (size (goal.at.returns-in-Accepted c).After-count_scales-sums) c.listing_room_outcome-outcome.ensures _ _ _ _ c.in-Accepted.is
-    (c.count_scales-sums.ensures.found_value.0 ∙ ap (found_to q) (largest (goal.at.returns-in-Accepted c).After-count_scales-sums)) (c.count_scales-sums.ensures.found_value.1 ∙ ap (refused_to q) (largest (goal.at.returns-in-Accepted c).After-count_scales-sums))
-    (c.list_scales.ensures.flags_after ∙ ap (λ (v : Work). works_to q c.largest_scale-largest.result v) c.count_scales-sums.ensures.flags_after ∙ ap (λ (n : ℕ). works_to q n (works_to q n w)) (largest (goal.at.returns-in-Accepted c).After-count_scales-sums))
-    (c.list_scales.ensures.listing_after ∙ ap (λ (n : ℕ). over_front (listings_to q n) c.args.listing.now) (largest (goal.at.returns-in-Accepted c).After-count_scales-sums))
+pub returns : goal.returns
+returns c =
+    let p = goal.at.returns c in
+    let s = p.After-count_scales-sums in
+    let e = c.largest_scale-largest.ensures in
+    every_written (asking p.Start) (lent p.Start) c.args.listing.now c.requires _ (sums s)
+    c.in_ok-listing_room_outcome.ensures _ _
+    (rw (e, works s) at c.list_scales.ensures.buffers) (rw e at c.list_scales.ensures.listing_after)

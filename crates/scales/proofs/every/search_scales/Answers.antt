@@ -1,44 +1,32 @@
--- `every::search_scales` meets its contract: refused as its outcome says, nothing is written; else there is room for the
--- search at every scale (`every_passed`), and that is what is done.
+-- `every::search_scales` meets its contract: refused as its outcome says, nothing is written; else there is room for
+-- the search at every scale (`every_passed`), and that is what is done.
 -- Assumes nothing.
-use mathlib.Core.Path.{◌≡◌, ◌∙◌}
-use mathlib.Core.List.{[]}
-use native.Mathlib.Omega.{arith}
-use Rattle.theory.specs.Bytes.{Bytes}
-use Rattle.refusals.specs.Said.{accepts}
-use Rattle.refusals.specs.Said.Laws.{passed_said}
-use Rattle.shapes.specs.Questions.{Question, ask}
-use Rattle.flags.specs.Flags.{rooms_of}
+use Rattle.std.proofs.Common.{◌≡◌, Err, refl, sym, ◌∙◌, rules}
+use Rattle.shapes.specs.Questions.{Question, question_in}
 use Rattle.searched.specs.Search.{Lent, lend}
-use Rattle.scaled.specs.Scaled.{every_room_said}
 use Rattle.scaled.specs.Scaled.Fit.{every_passed}
 use Rattle.scaled.specs.Scaled.Outcome.{every_stopped, every_goes}
 use Rattle.scales.proofs.every.search_scales.Goals as goal
-use Rattle.scales.proofs.every.search_scales.Goals.{After-every_room_outcome-outcome, In-Accepted, Start}
+use Rattle.scales.proofs.every.search_scales.Goals.{Start}
 
 -- what is asked, and what is lent
 abbrev asking : Start → Question
-asking o = let a = o.args in ask a.text.now a.rows a.columns a.pattern.now a.height a.width
+asking o = question_in o.args.q
 
 abbrev lending : Start → Lent
 lending o = let a = o.args in lend a.links.now a.counts.now a.flags.now a.listing.now
 
--- text and pattern are bytes, as their types say
-bytes : (c : After-every_room_outcome-outcome) → Bytes c.args.text.now × Bytes c.args.pattern.now
-bytes c =
-    ((λ i. omega (arith, c.type_inv.text i)), (λ i. omega (arith, c.type_inv.pattern i)))
-
--- nothing of 2, 3, 17, 9, 10 is refused
-room_good : (c : In-Accepted) → every_room_said (asking (goal.at.In-Accepted c).Start) (rooms_of (lending (goal.at.In-Accepted c).Start).work) ≡ accepts []
-room_good c = passed_said _ _ c.in-Accepted.is c.every_room_outcome-outcome.ensures
+pub returns-in_err-every_room_outcome-clause-answer : goal.returns-in_err-every_room_outcome-clause-answer
+returns-in_err-every_room_outcome-clause-answer c =
+    let o = (goal.at.returns-in_err-every_room_outcome-clause-answer c).Start in
+    let why = c.in_err-every_room_outcome.field-0.0 in
+    let is : c.from_residual.result ≡ Err why = search rules in
+    rw is (every_stopped (asking o) (lending o) (Err why) why refl c.in_err-every_room_outcome.ensures)
 
 pub search_every-requires : goal.search_every-requires
-search_every-requires c = every_passed _ _ _ (room_good (goal.at.search_every-requires c).In-Accepted)
+search_every-requires c = every_passed _ _ _ (sym c.in_ok-every_room_outcome.ensures)
 
-pub returns-in-Refused : goal.returns-in-Refused
-returns-in-Refused c =
-    record { listing_after = every_stopped (asking (goal.at.returns-in-Refused c).Start) (lending (goal.at.returns-in-Refused c).Start) _ _ c.in-Refused.is c.every_room_outcome-outcome.ensures; bytes = bytes (goal.at.returns-in-Refused c).After-every_room_outcome-outcome }
-
-pub returns-in-Accepted : goal.returns-in-Accepted
-returns-in-Accepted c =
-    record { listing_after = c.search_every.ensures ∙ every_goes (asking (goal.at.returns-in-Accepted c).Start) (lending (goal.at.returns-in-Accepted c).Start) (room_good (goal.at.returns-in-Accepted c).In-Accepted); bytes = bytes (goal.at.returns-in-Accepted c).After-every_room_outcome-outcome }
+pub returns-clause-answer : goal.returns-clause-answer
+returns-clause-answer c =
+    let o = (goal.at.returns-clause-answer c).Start in
+    c.search_every.ensures ∙ every_goes (asking o) (lending o) (sym c.in_ok-every_room_outcome.ensures)

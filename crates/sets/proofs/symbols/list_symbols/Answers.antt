@@ -21,6 +21,6 @@ loop-symbol-preserved c =
 
 pub returns : goal.returns
 returns c = record {
-  value = listed-number _ _ _ _ _ c.loop-symbol.invariant 256 c.in_default.ensures (omega arith);
+  count = listed-number _ _ _ _ _ c.loop-symbol.invariant 256 c.in_default.ensures (omega arith);
   listed_after = listed-all _ _ _ _ _ c.loop-symbol.invariant 256 c.in_default.ensures (omega arith);
 }

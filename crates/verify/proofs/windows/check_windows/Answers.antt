@@ -10,18 +10,17 @@ use Rattle.verify.proofs.windows.check_windows.Goals as goal
 
 pub walk_windows-requires : goal.walk_windows-requires
 walk_windows-requires c =
-    let sides = c.requires.0.sized.sides in
+    let sides = c.requires.shape.sized.sides in
     let fresh = c.new-tables.ensures in (
-      c.requires.0,
-      c.requires.1,
-      listed-take _ _ _ _ c.list_symbols-d.ensures.value c.list_symbols-d.ensures.listed_after
+      c.requires,
+      listed-take _ _ _ _ c.list_symbols-d.ensures.count c.list_symbols-d.ensures.listed_after
           ∙ members-set_of_symbols _ _ c.symbol_set-set.ensures,
       older_zeros _ _ (omega arith) fresh.given,
       tables_none _ _ _ _ _ _ (record {
-        cells = c.requires.1;
+        cells = c.requires.size;
         tall = sides.height_good.positive;
         broad = sides.width_good.positive;
         height_le = sides.height_good.small;
         width_le = sides.width_good.small;
-      }) sides.columns_good.small fresh.offsets fresh.selves fresh.tops,
+      }) sides.columns_good.small fresh.offsets fresh.own fresh.tops,
     )

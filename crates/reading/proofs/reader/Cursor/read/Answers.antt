@@ -9,4 +9,5 @@ pub returns-then-listing-at : goal.returns-then-listing-at
 returns-then-listing-at c = reads_spent _ _ c.if-listing-at.true
 
 pub returns-in_default : goal.returns-in_default
-returns-in_default c = reads_unknown _ _ _ (record { inside = c.if-listing-at.false; kind_is = refl }) c.in_default.ensures.1
+returns-in_default c = reads_unknown _ _ _ (record { inside = c.if-listing-at.false; kind_is = refl })
+    c.in_default.ensures.1

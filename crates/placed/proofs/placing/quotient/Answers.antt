@@ -1,8 +1,0 @@
--- `placing::quotient` meets its contract: the product is small.
--- Assumes nothing.
-use native.Mathlib.Nat.{mul-le-mul}
-use native.Mathlib.Omega.{arith}
-use Rattle.placed.proofs.placing.quotient.Goals as goal
-
-pub overflow_mul-result : goal.overflow_mul-result
-overflow_mul-result c = omega (arith, mul-le-mul c.requires.0 c.requires.1)
