@@ -59,7 +59,7 @@ fn rows_carry(m: Imaged, known: usize) -> bool
 }
 
 // All rows: those that the window inherits are not looked at. A window that is carried is kept for those below it.
-pub fn carries(m: Imaged, own: &mut [FirstEnd; 256], tops: &mut [Option<usize>; 256]) -> bool
+pub fn carries(m: Imaged, own: &mut [FirstEnd; 256], tops: &mut [usize; 256]) -> bool
     requires { AboveSeen m.compared own.old tops.old }
     ensures follows { let c = m.entry.compared in
         result ≡ true → Follows (pattern_seen c) (window_seen c) (cells_seen c) }
@@ -70,6 +70,6 @@ pub fn carries(m: Imaged, own: &mut [FirstEnd; 256], tops: &mut [Option<usize>; 
         return false;
     }
     let v = m.compared.window.place;
-    tops[v.column] = Some(v.row);
+    tops[v.column] = v.row + 1;
     true
 }

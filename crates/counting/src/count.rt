@@ -1,10 +1,12 @@
 // Document 02's R-1, count first: links, counts and flags as the search leaves them, the windows found and refused, and
 // the length that the listing will have.
 // Links, counts and flags are lent one by one: in one struct of `&mut` each clause would name them through old and new.
-ghost use Rattle.std.specs.Prelude.{◌≡◌, length};
+ghost use Rattle.std.specs.Prelude.{◌≡◌, length, get_or};
 ghost use Rattle.theory.specs.Bytes.{Bytes};
 ghost use Rattle.shapes.specs.Questions.{asked, question_in};
 ghost use Rattle.shapes.specs.Shapes.{down};
+ghost use Rattle.occurrences.specs.Distinct.{distinct};
+ghost use Rattle.prefixes.specs.State.{FirstPlaces};
 ghost use Rattle.sweep.specs.Sweep.{OwnSoFar};
 ghost use Rattle.flags.specs.Flags.{RoomFor, rooms, working, work_after};
 ghost use Rattle.entries.specs.Listing.Totals.{totals_in};
@@ -19,39 +21,46 @@ use rows::run::FirstEnd;
 use shapes::question::Question;
 use shapes::shapes::Shape;
 use shapes::tables::table;
-use totals::pattern::{Known, read_pattern};
+use totals::pattern::read_pattern;
 use totals::totals::totals_of;
 
-// What Count does once nothing is left to refuse, and what the search begins with: the flags, and their totals, with
-// what is known of the pattern, and own ends as far as they were made. A table that is read for each cell is copied
-// once: what stands in the function's own frame is read without a register for its place.
+// What Count does once nothing is left to refuse, and what the search begins with: the flags, and their totals, where
+// the pattern has so many symbols, with these first places, and own ends as far as they were made. A table that is read
+// for each cell is copied once: what stands in the function's own frame is read without a register for its place. Number
+// and places are no struct: where a reference to the places lies in one, what is known stands twice in a caller's frame.
 pub fn count_flagged<P: Pattern>(
     text: &[u8],
-    known: &Known<P>,
+    pattern: P,
+    symbols: u16,
+    first: &[usize; 256],
     s: Shape,
     own: &mut [FirstEnd; 256],
     links: &mut [u16],
     counts: &mut [u16],
     flags: &mut [u8],
 ) -> Totals<u16>
-    requires { RoomFor (asked text.now (P.cells known.now.pattern) s)
+    requires { RoomFor (asked text.now (P.cells pattern) s)
         (rooms (length links.old) (length counts.old) (length flags.old))
-        × OwnSoFar (P.cells known.now.pattern) s.width (down s) own.old }
+        × (symbols ≡ distinct (P.cells pattern))
+        × FirstPlaces (λ k. get_or (P.cells pattern) k 0) (length (P.cells pattern)) first.now
+        × OwnSoFar (P.cells pattern) s.width (down s) own.old }
     ensures buffers { working links.new counts.new flags.new
-        ≡ work_after (asked text.now (P.cells known.now.pattern) s)
+        ≡ work_after (asked text.now (P.cells pattern) s)
         (working links.old counts.old flags.old) }
-    ensures totals { result ≡ totals_in (asked text.now (P.cells known.now.pattern) s) }
-    ensures own_so_far { OwnSoFar (P.cells known.now.pattern) s.width (down s) own.new }
+    ensures totals { result ≡ totals_in (asked text.now (P.cells pattern) s) }
+    ensures own_so_far { OwnSoFar (P.cells pattern) s.width (down s) own.new }
 {
     let n = s.windows();
-    let pattern = known.pattern;
-    let count = known.count;
-    let first = known.first;
-    flag_all(text, pattern, &first, own, count, s, links, counts, flags);
-    totals_of(count, &flags[..n])
+    let places = *first;
+    flag_all(
+        text, pattern, &places, own, symbols, s, links, counts, flags,
+    );
+    totals_of(symbols, &flags[..n])
 }
 
-// The same with nothing known of the pattern: what it says by itself is found first.
+// The same with nothing known of the pattern: what it says by itself is found first. It is no part of its callers'
+// frames, as the search is none.
+#[inline(never)]
 pub fn count_laid<P: Pattern>(
     text: &[u8],
     pattern: P,
@@ -69,7 +78,17 @@ pub fn count_laid<P: Pattern>(
 {
     let known = read_pattern(pattern);
     let mut own = table(FirstEnd { end: 0, earlier: 0 });
-    count_flagged(text, &known, s, &mut own, links, counts, flags)
+    count_flagged(
+        text,
+        known.pattern,
+        known.count,
+        &known.first,
+        s,
+        &mut own,
+        links,
+        counts,
+        flags,
+    )
 }
 
 // Counts the windows of a text that a pattern matches, and those that it does not. Refused by 2, 3, 4, 9, 10; there is

@@ -3,7 +3,7 @@ ghost use Rattle.std.specs.Prelude.{◌≡◌, ◌≤◌, length};
 ghost use Rattle.printing.specs.Lines.{Recorded};
 
 use listing::totals::Totals;
-use printing::lines::write_lines;
+use printing::lines::{write_lines, write_refusal};
 use refusals::refusals::Refusal;
 use shapes::tables::table;
 use std::io;
@@ -36,9 +36,16 @@ pub fn print_numbers(
     }
 }
 
+// The line of a refusal.
+fn print_refused(rt: &HostRuntime, why: Refusal) -> io::Result<()> {
+    let mut output: [u8; 12] = table(0);
+    let length = write_refusal(&mut output, 0, u8::from(why));
+    print(rt, &output[..length])
+}
+
 // A refusal by its number; under refusal 11 the length that is needed, under 6, 7 and 15 the place in the listing.
 pub fn print_refusal(rt: &HostRuntime, why: Refusal) -> io::Result<()> {
-    println!(rt; "{why}")?;
+    print_refused(rt, why)?;
     match why {
         Refusal::ListingBufferShort(needed) => println!(rt; "needs {needed}"),
         Refusal::ListingForm(at) | Refusal::ListingFalse(at) | Refusal::CursorSpent(at) => {

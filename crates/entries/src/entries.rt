@@ -60,7 +60,7 @@ fn write_pairs<P: Pattern>(
     for place in pairs {
         let pair = Record::Pair {
             pattern: place.symbol,
-            text: w.text[corner + place.offset],
+            text: w.text[corner + place.offset as usize],
         };
         end = write_record(listing, end, pair);
     }

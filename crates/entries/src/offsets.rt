@@ -10,10 +10,12 @@ use cells::windows::cell_offset;
 use placed::pattern::Pattern;
 
 // One of the pattern's symbols, and the offset from a window's corner to the window's cell at the symbol's first place.
+// An offset is of 32 bits, so that a table of 256 takes 2 KiB of stack and not 4; by `as`: `try_from` would have a way
+// out that no value takes.
 #[derive(Clone, Copy)]
 pub struct PairPlace {
     pub symbol: u8,
-    pub offset: usize,
+    pub offset: u32,
 }
 
 // The listed symbols, each with its offset, at the front of a table.
@@ -37,7 +39,7 @@ pub fn list_offsets<P: Pattern>(
         let p = first[usize::from(symbol)];
         pairs[k] = PairPlace {
             symbol,
-            offset: cell_offset(columns, width, p),
+            offset: cell_offset(columns, width, p) as u32,
         };
     }
 }

@@ -9,6 +9,7 @@ ghost use Rattle.inheriting.specs.Inheritance.{TablesSeen};
 ghost use Rattle.pairs.specs.Pairs.{Marked, PairRead};
 
 use carrying::carries::carries;
+use cells::windows::WindowPlace;
 use inheriting::images::Imaged;
 use inheriting::offsets::make_offsets;
 use inheriting::tables::Tables;
@@ -99,7 +100,18 @@ fn check_pairs(
         (symbols_of c.pattern.now) [] at }
     ensures older { Older (base + 256) given.new }
 {
-    let plain = plain_pairs(w, base, given, symbols, listing, at);
+    let m = w.images;
+    let plain = plain_pairs(
+        m.compared.window.text,
+        w.carried,
+        m.corner,
+        m.offsets,
+        base,
+        given,
+        symbols,
+        listing,
+        at,
+    );
     let mut end = at + 3 * plain;
     // By place, since the laws count places in the whole list and not in `&symbols[plain..]`.
     for i in plain..symbols.len() {
@@ -125,7 +137,20 @@ pub fn found_pairs(
     ensures older { Older (base + 256) tables.new.given }
     ensures check_tables { TablesSeen c.entry tables.new }
 {
-    make_offsets(c, symbols, &mut tables.offsets);
+    let WindowPlace {
+        columns,
+        height,
+        width,
+        ..
+    } = c.window.place;
+    make_offsets(
+        c.pattern,
+        symbols,
+        columns,
+        height,
+        width,
+        &mut tables.offsets,
+    );
     let Some(offsets) = &tables.offsets else {
         unreachable!()
     };

@@ -68,7 +68,9 @@ fn link_row(row: &[u8], base: usize, last: &mut [u16; 256], links: &mut [u16])
     }
 }
 
-// The links of a strip, row by row.
+// The links of a strip, row by row. As a part of its callers its loop was 48 bytes of code, whose jump back lies at the
+// border of 32 bytes in every second place that a linker may choose, and there took up to twice the time.
+#[inline(never)]
 fn link_rows(text: &[u8], t: Strip, links: &mut [u16])
     requires { StripOf t (length text.now) × (t.rows * t.width ≤ length links.old) }
     ensures { links.new ≡ stored_rows (link (strip_symbols text.now t)) (λ i j. i * t.width + j)

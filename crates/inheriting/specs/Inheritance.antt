@@ -5,7 +5,7 @@
 -- is carried is kept for each column.
 -- Assumes nothing.
 pub mod Laws
-use Rattle.std.specs.Prelude.{◌≡◌, List, ℕ, ◌-◌, ◌*◌, ◌≤◌, ◌<◌, length, get_or, Option, Some, None}
+use Rattle.std.specs.Prelude.{◌≡◌, List, ℕ, ◌+◌, ◌-◌, ◌*◌, ◌≤◌, ◌<◌, length, get_or}
 use Rattle.theory.specs.Match.{first_end}
 use Rattle.cells.specs.Windows.{window_at}
 use Rattle.matching.specs.Compare.{cell_of_pattern}
@@ -26,10 +26,10 @@ pub record Follows (m w : ℕ → ℕ) (n : ℕ) : Type 0 where
 abbrev pub own_end_of : List ℕ → ℕ → ℕ
 own_end_of pattern d = first_end (cell_of_pattern pattern) (suffix (cell_of_pattern pattern) d) (length pattern - d)
 
--- for each column the row of a window there that follows the pattern, or none
-pub record Tops (text pattern : List ℕ) (columns height width : ℕ) (tops : List (Option ℕ)) : Type 0 where
+-- for each column one more than the row of a window there that follows the pattern, or 0 for none
+pub record Tops (text pattern : List ℕ) (columns height width : ℕ) (tops : List ℕ) : Type 0 where
   pub long : length tops ≡ 256
-  pub each : (j row : ℕ) → get_or tops j None ≡ Some row
+  pub each : (j row : ℕ) → get_or tops j 0 ≡ row + 1
       → Follows (cell_of_pattern pattern) (window_at text columns row j width) (height * width)
 
 -- the pattern's own ends, row by row
@@ -43,7 +43,7 @@ pub record OwnEndsIfMade (pattern : List ℕ) (height width : ℕ) (own : List F
   pub made : 0 < (own_at own 0).end → OwnEndsMade pattern height width own
 
 -- what the windows so far leave to those below them
-pub record Above (text pattern : List ℕ) (columns height width : ℕ) (own : List FirstEnd) (tops : List (Option ℕ)) : Type 0
+pub record Above (text pattern : List ℕ) (columns height width : ℕ) (own : List FirstEnd) (tops : List ℕ) : Type 0
   where
     pub sides : SidesOf pattern height width
     pub narrow : columns ≤ 255
@@ -51,7 +51,7 @@ pub record Above (text pattern : List ℕ) (columns height width : ℕ) (own : L
     pub owned : OwnEndsIfMade pattern height width own
 
 -- the same of the text and the pattern of a window that is compared
-abbrev pub AboveSeen : Compared → List FirstEnd → List (Option ℕ) → Type 0
+abbrev pub AboveSeen : Compared → List FirstEnd → List ℕ → Type 0
 AboveSeen c own tops =
     Above c.window.text.now c.pattern.now c.window.place.columns c.window.place.height c.window.place.width own tops
 

@@ -3,6 +3,7 @@ ghost use Rattle.std.specs.Prelude.{◌≡◌, ◌+◌, ◌<◌, length, get_or}
 ghost use Rattle.view.specs.Places.{corner_of};
 ghost use Rattle.inheriting.specs.Offsets.{image_from_behind, Offsets};
 
+use crate::offsets::image_behind;
 use matching::compared::Compared;
 
 // A window that is compared, where its corner lies in the text, and how far the first place of each of the pattern's
@@ -25,6 +26,6 @@ impl<'a, 'b, 'c> Imaged<'a, 'b, 'c> {
         ensures { let m = self.entry in
             result ≡ image_from_behind m.compared.window.text.now m.corner m.offsets.now a }
     {
-        self.compared.window.text[self.corner + self.offsets[usize::from(a)]]
+        image_behind(self.compared.window.text, self.corner, self.offsets, a)
     }
 }

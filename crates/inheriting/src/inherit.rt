@@ -13,7 +13,9 @@ use shapes::tables::table;
 use sweep::own::own_ends;
 
 // The first end of the pattern's rows from k on against the pattern itself. All of them are made when one is first
-// asked for: until then own end 0, which is the pattern's length, is 0.
+// asked for: until then own end 0, which is the pattern's length, is 0. That is done once, so its table is in no other
+// frame.
+#[inline(never)]
 fn own_end(
     pattern: &[u8],
     height: usize,
@@ -37,7 +39,7 @@ fn own_end(
 // How many rows of the window follow the pattern because the carried window above that was kept does: all but the last
 // k, where that one lies k rows further up and the pattern's rows from k on have no mismatch with its first rows; else
 // none. Where the pattern matches both windows, the lower one always inherits so.
-pub fn inherited_rows(c: Compared, own: &mut [FirstEnd; 256], tops: &[Option<usize>; 256]) -> usize
+pub fn inherited_rows(c: Compared, own: &mut [FirstEnd; 256], tops: &[usize; 256]) -> usize
     requires { AboveSeen c own.old tops.now }
     ensures inherited { let v = c.entry.window.place in
         (result ≤ v.height) × Follows (pattern_seen c.entry) (window_seen c.entry) (result * v.width) }
@@ -55,13 +57,11 @@ pub fn inherited_rows(c: Compared, own: &mut [FirstEnd; 256], tops: &[Option<usi
         width,
         ..
     } = window.place;
-    let Some(above) = tops[column] else {
-        return 0;
-    };
-    if row <= above {
+    let above = tops[column];
+    if above == 0 || row < above {
         return 0;
     }
-    let k = row - above;
+    let k = row + 1 - above;
     if height <= k {
         return 0;
     }

@@ -12,8 +12,10 @@ pub struct Tables {
     pub offsets: Option<[usize; 256]>,
     // the pattern's own ends; not made yet where the first is 0
     pub own: [FirstEnd; 256],
-    // for each column the row of the last window there that has one symbol for each of the pattern's
-    pub tops: [Option<usize>; 256],
+    // for each column one more than the row of the last window there that has one symbol for each of the pattern's, or
+    // 0 where none has. No Option: 256 of them take 4 KiB of stack and not 2, and the check would touch more than the
+    // header says
+    pub tops: [usize; 256],
 }
 
 impl Tables {
@@ -22,13 +24,13 @@ impl Tables {
         ensures given { result.given ≡ replicate 256 0 }
         ensures offsets { result.offsets ≡ None }
         ensures own { result.own ≡ replicate 256 (record { end = 0; earlier = 0 }) }
-        ensures tops { result.tops ≡ replicate 256 None }
+        ensures tops { result.tops ≡ replicate 256 0 }
     {
         Tables {
             given: table(0),
             offsets: None,
             own: table(FirstEnd { end: 0, earlier: 0 }),
-            tops: table(None),
+            tops: table(0),
         }
     }
 }

@@ -8,9 +8,8 @@ ghost use Rattle.shapes.specs.Shapes.{across, down};
 ghost use Rattle.sweep.specs.Sweep.{OwnSoFar, SweepAt};
 ghost use Rattle.flags.specs.Flags.{flags_truth};
 ghost use Rattle.entries.specs.Listing.{search_listing};
-ghost use Rattle.entries.specs.Listing.Totals.{totals_in};
-ghost use Rattle.passes.specs.Windows.{Flagged};
 ghost use Rattle.searched.specs.Search.{listed_said, list_done, list_of};
+ghost use Rattle.lister.specs.Steps.{Trusted};
 
 use listing::totals::Totals;
 use placed::pattern::Pattern;
@@ -25,25 +24,29 @@ use totals::totals::totals_of;
 use truth::strips::flags_true;
 use writer::writing::write_listing;
 
-// What List does once the flags are known to be the truth, and what the search ends with: 11, or the listing. The table
-// of own ends is of no use to anyone afterwards, and nothing is said of it.
+// What List does once the flags are judged, and what the search ends with: what refused them, where something did, then
+// 11, or the listing. The table of own ends is of no use to anyone afterwards, and nothing is said of it. What it makes
+// itself lies in a frame of its own, and not in its callers', which call what comes before it too.
+#[inline(never)]
 pub fn list_flagged<P: Pattern>(
     text: &[u8],
     known: &Known<P>,
     s: Shape,
     own: &mut [FirstEnd; 256],
+    judged: Result<(), Refusal>,
     totals: Totals<u16>,
     flags: &[u8],
     listing: &mut [u8],
 ) -> Result<Totals<u16>, Refusal>
-    requires { Flagged text.now (P.cells known.now.pattern) s flags.now
-        × (totals ≡ totals_in (asked text.now (P.cells known.now.pattern) s))
+    requires { Trusted text.now (P.cells known.now.pattern) s judged flags.now totals
         × OwnSoFar (P.cells known.now.pattern) s.width (down s) own.old }
     ensures { list_done result listing.new
-        ≡ filled_by (listed_said (asked text.now (P.cells known.now.pattern) s) (length listing.old))
+        ≡ filled_by
+        (outcome_said judged
+        then listed_said (asked text.now (P.cells known.now.pattern) s) (length listing.old))
         (search_listing (asked text.now (P.cells known.now.pattern) s)) listing.old }
 {
-    listing_room_outcome(listing.len(), totals.length)?;
+    judged.and(listing_room_outcome(listing.len(), totals.length))?;
     write_listing(text, known, s, own, totals, flags, listing);
     Ok(totals)
 }
@@ -86,9 +89,9 @@ fn list_posed<P: Pattern>(
 {
     let known = read_pattern(pattern);
     let mut own = table(FirstEnd { end: 0, earlier: 0 });
+    let judged = truth_outcome(text, &known, s, &mut own, flags);
     let totals = totals_of(known.count, &flags[..s.windows()]);
-    truth_outcome(text, &known, s, &mut own, flags)?;
-    list_flagged(text, &known, s, &mut own, totals, flags, listing)
+    list_flagged(text, &known, s, &mut own, judged, totals, flags, listing)
 }
 
 // Writes the listing of a search from flags. Refused by 2, 3, 4, by 10 where the flags are fewer than the windows, by

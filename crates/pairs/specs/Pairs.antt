@@ -12,21 +12,44 @@ use Rattle.occurrences.specs.Distinct.Sets.{contains_tested}
 use Rattle.sets.specs.Symbols.{symbols_of}
 use Rattle.refusals.specs.declared.refusals.Refusal.TheVariants.{ListingForm, ListingFalse}
 use Rattle.sets.specs.Symbols.Patterns.{listed_symbol}
-use Rattle.view.specs.Places.{corner_of}
-use Rattle.matching.specs.Compared.{pattern_seen, window_seen, cells_seen}
-use Rattle.matching.specs.declared.compared.Compared.{Compared}
+use Rattle.view.specs.Places.{window_of, cell_count, corner_of, Placed}
+use Rattle.cells.specs.declared.windows.WindowPlace.{WindowPlace}
+use Rattle.matching.specs.Compare.{cell_of_pattern}
 use Rattle.theory.specs.Test.{pick, both, Tested, holds, fails}
 use Rattle.theory.specs.Test.Laws.{eq_tested, lt_tested, tested_iff, tested_same, is_true, is_false, says_true}
 use Rattle.theory.specs.First.Laws.{every_tested}
 use Rattle.inheriting.specs.Carries.{Carried}
+use Rattle.inheriting.specs.Inheritance.{Follows}
 use Rattle.inheriting.specs.Inheritance.Laws.{follows_carried}
-use Rattle.inheriting.specs.Offsets.{image_from_behind}
+use Rattle.inheriting.specs.Offsets.{image_from_behind, Offsets}
 use Rattle.inheriting.specs.Offsets.Laws.{offset_inside}
-use Rattle.inheriting.specs.Images.{image_in, ImagesIn}
+use Rattle.inheriting.specs.Images.{ImagesIn}
 use Rattle.inheriting.specs.declared.images.Imaged.{Imaged}
 use Rattle.pairs.specs.declared.window.FoundWindow.{FoundWindow}
 use Rattle.claims.specs.Claims.{or_stop, byte_at, stands, has_image_test, right_pair}
 use Rattle.claims.specs.Claims.{Walk}
+
+-- what is known of a window that a found record names, wherever the facts come from: its corner, the offsets that lead
+-- from there to its symbols' images, and whether it is known to follow the pattern
+pub record FoundAt (text : List ℕ) (v : WindowPlace) (pattern : List ℕ) (carried : Bool) (corner : ℕ)
+    (offsets : List ℕ) : Type 0 where
+  pub placed : Placed text v
+  pub size : length pattern ≡ cell_count v
+  pub corner_is : corner ≡ corner_of v
+  pub leads : Offsets pattern v.columns v.width offsets
+  pub follows : carried ≡ true → Follows (cell_of_pattern pattern) (window_of text v) (cell_count v)
+
+-- the window of the struct is one
+pub found_at : (f : FoundWindow) → let c = f.images.compared in
+    FoundAt c.window.text.now c.window.place c.pattern.now f.carried f.images.corner f.images.offsets.now
+found_at f =
+    record {
+      placed = f.images.compared.window.placed;
+      size = f.images.compared.fitting;
+      corner_is = f.images.corner_is;
+      leads = f.images.leads;
+      follows = f.follows;
+    }
 
 -- just the symbols given are marked with base
 pub record Marked (base : ℕ) (given marks : List ℕ) : Type 0 where
@@ -83,35 +106,31 @@ module _ (m w : ℕ → ℕ) (a b : ℕ) where
 
 -- where the window follows the pattern, the image of a symbol that the pattern has says it: one cell has the symbol, so
 -- the image is that cell's, and every other one's
-pub image_carried : (f : FoundWindow) (a b x : ℕ) → let c = f.images.compared in f.carried ≡ true
-    → contains c.pattern.now a ≡ true → x ≡ image_in f.images a
-    → eqb x b ≡ has_image_test (pattern_seen c) (window_seen c) (cells_seen c) a b
-image_carried f a b x says has x_is =
+pub image_carried : (text : List ℕ) (v : WindowPlace) (pattern : List ℕ) (carried : Bool) (corner : ℕ)
+    (offsets : List ℕ) (a b x : ℕ) → FoundAt text v pattern carried corner offsets → carried ≡ true
+    → contains pattern a ≡ true → x ≡ image_from_behind text corner offsets a
+    → eqb x b ≡ has_image_test (cell_of_pattern pattern) (window_of text v) (cell_count v) a b
+image_carried text v pattern carried corner offsets a b x found says has x_is =
     tested_same (tested_iff there back (eq_tested x b))
-    (has_image_tested (pattern_seen c) (window_seen c) (cells_seen c) a b)
+    (has_image_tested (cell_of_pattern pattern) (window_of text v) (cell_count v) a b)
   where
-    c : Compared
-    c = f.images.compared
-
-    cells : Carried c.window.text.now (corner_of c.window.place) f.images.offsets.now (pattern_seen c) (window_seen c)
-        (cells_seen c)
+    cells : Carried text (corner_of v) offsets (cell_of_pattern pattern) (window_of text v) (cell_count v)
     cells =
-        follows_carried c.window.text.now c.window.place c.pattern.now f.images.offsets.now (cells_seen c)
-        f.images.leads (omega (arith, c.fitting)) (f.follows says)
+        follows_carried text v pattern offsets (cell_count v) found.leads (omega (arith, found.size))
+        (found.follows says)
 
-    image : (p : ℕ) → p < cells_seen c → pattern_seen c p ≡ a → x ≡ window_seen c p
+    image : (p : ℕ) → p < cell_count v → get_or pattern p 0 ≡ a → x ≡ window_of text v p
     image p h e =
-        x_is ∙ ap (λ (k : ℕ). image_from_behind c.window.text.now k f.images.offsets.now a) f.images.corner_is
-        ∙ ap (image_from_behind c.window.text.now (corner_of c.window.place) f.images.offsets.now) (sym e)
-        ∙ cells.carries p h
+        x_is ∙ ap (λ (k : ℕ). image_from_behind text k offsets a) found.corner_is
+        ∙ ap (image_from_behind text (corner_of v) offsets) (sym e) ∙ cells.carries p h
 
-    there : x ≡ b → (p : ℕ) → p < cells_seen c → pattern_seen c p ≡ a → window_seen c p ≡ b
+    there : x ≡ b → (p : ℕ) → p < cell_count v → get_or pattern p 0 ≡ a → window_of text v p ≡ b
     there e p h d = sym (image p h d) ∙ e
 
-    back : ((p : ℕ) → p < cells_seen c → pattern_seen c p ≡ a → window_seen c p ≡ b) → x ≡ b
+    back : ((p : ℕ) → p < cell_count v → get_or pattern p 0 ≡ a → window_of text v p ≡ b) → x ≡ b
     back all =
-        let cell = says_true (contains_tested c.pattern.now a) has in
-        let inside : cell.0 < cells_seen c = omega (arith, cell.1, c.fitting) in
+        let cell = says_true (contains_tested pattern a) has in
+        let inside : cell.0 < cell_count v = omega (arith, cell.1, found.size) in
         image cell.0 inside cell.2 ∙ all cell.0 inside cell.2
 
 -- the image lies in the text

@@ -25,7 +25,8 @@ use Rattle.refusals.specs.Said.Laws.{then_proper, numbered_proper, zero_accepts,
 use Rattle.shapes.specs.Shapes.{Fits}
 use Rattle.shapes.specs.Questions.{Question, Posed, sides_of, cells_said, sides_said, size_said, shape_said, links_needed}
 use Rattle.shapes.specs.Questions.{windows_of}
-use Rattle.shapes.specs.Questions.Laws.{sides_numbered, cells_numbered, size_numbered, size_pass, posed}
+use Rattle.shapes.specs.Questions.Laws.{sides_numbered, cells_numbered, size_numbered, shape_in_order, size_pass}
+use Rattle.shapes.specs.Questions.Laws.{posed}
 use Rattle.shapes.specs.declared.shapes.Shape.{Shape}
 use Rattle.flags.specs.Flags.{Work, Rooms, rooms_of, count_at, window_flag}
 use Rattle.entries.specs.Listing.{found_in, refused_in, needed_length, search_listing}
@@ -220,34 +221,35 @@ one_posed q l p =
 -- and so they are unless the search says 4
 pub one_is_search : (q : Question) (l : Lent) → (said_number (search_of q l).said ≡ 4 → ⊥)
     → scaled_of 1 q l ≡ search_of q l
-unfolding scaled_of scaled_room_said scaled_shape_said search_of room_said shape_said
+unfolding scaled_of scaled_room_said scaled_shape_said search_of room_said
 one_is_search q l never = of_sides (sides_said (sides_of q)) refl (sides_numbered (sides_of q))
   where
     of_size : (a : Said) → sides_said (sides_of q) ≡ accepts [] → cells_said q ≡ accepts [] → size_said (sides_of q) ≡ a
         → Numbered 4 a → scaled_of 1 q l ≡ search_of q l
-    of_size (accepts values) sides cells e passing = one_posed q l (posed q [] (rw (sides, cells, e)))
-    of_size (refuses number values) sides cells e refusing = absurd (never (rw (sides, cells, e)))
+    of_size (accepts values) sides cells e passing = one_posed q l (posed q [] (rw (shape_in_order q, sides, cells, e)))
+    of_size (refuses number values) sides cells e refusing = absurd (never (rw (shape_in_order q, sides, cells, e)))
 
     of_cells : (a : Said) → sides_said (sides_of q) ≡ accepts [] → cells_said q ≡ a → Numbered 3 a
         → scaled_of 1 q l ≡ search_of q l
     of_cells (accepts values) sides e passing =
         of_size (size_said (sides_of q)) sides e refl (size_numbered (sides_of q))
-    of_cells (refuses number values) sides e refusing = rw (sides, e)
+    of_cells (refuses number values) sides e refusing = rw (shape_in_order q, sides, e)
 
     of_sides : (a : Said) → sides_said (sides_of q) ≡ a → Numbered 2 a → scaled_of 1 q l ≡ search_of q l
     of_sides (accepts values) e passing = of_cells (cells_said q) e refl (cells_numbered q)
-    of_sides (refuses number values) e refusing = rw e
+    of_sides (refuses number values) e refusing = rw (shape_in_order q, e)
 
 -- where it says 4, the search at 1 says 17, and nothing is changed
 pub one_gives_17 : (q : Question) (l : Lent) → said_number (search_of q l).said ≡ 4
     → scaled_of 1 q l ≡ record { said = refuses 17 []; lent = l }
-unfolding search_said room_said shape_said
+unfolding search_said room_said
 one_gives_17 q l e =
     let s =
     front_number 4 (shape_said q) _ (room_other 4 q q (rooms_of l.work) (omega arith) (omega arith)) (omega arith)
     (front_number 4 (room_said q (rooms_of l.work)) _ (listed_other 4 q (length l.listing) (omega arith))
     (omega arith) (sym (ap said_number (said_is q l)) ∙ e)) in
-    let a = end_number 4 (cells_said q then size_said (sides_of q)) (sides_numbered (sides_of q)) (omega arith) s in
+    let t = sym (ap said_number (shape_in_order q)) ∙ s in
+    let a = end_number 4 (cells_said q then size_said (sides_of q)) (sides_numbered (sides_of q)) (omega arith) t in
     let b = end_number 4 (size_said (sides_of q)) (cells_numbered q) (omega arith) a.1 in
     gives_17 1 q l a.0 b.0 (λ f. omega (arith, ap said_number (size_pass (sides_of q) (as_it_is f)), b.1))
   where

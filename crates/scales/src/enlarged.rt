@@ -11,7 +11,7 @@ ghost use Rattle.scaled.specs.Scaled.Fit.{PosedAt};
 use counting::count::count_laid;
 use listing::totals::Totals;
 use refusals::refusals::Refusal;
-use scaling::enlarging::enlarging;
+use scaling::enlarging::enlarged_pattern;
 use scaling::fit::enlarged_shape;
 use search::search::search_windows;
 use shapes::question::Question;
@@ -34,7 +34,7 @@ pub fn count_enlarged(
     if k == 1 {
         return count_laid(q.text, q.pattern, q.shape, links, counts, flags);
     }
-    let laid = enlarging(q, k);
+    let laid = enlarged_pattern(q, k);
     let e = enlarged_shape(q.shape, k);
     count_laid(q.text, laid, e, links, counts, flags)
 }
@@ -56,7 +56,7 @@ pub fn search_enlarged(
     if k == 1 {
         return search_windows(q.text, q.pattern, q.shape, links, counts, flags, listing);
     }
-    let laid = enlarging(q, k);
+    let laid = enlarged_pattern(q, k);
     let e = enlarged_shape(q.shape, k);
     search_windows(q.text, laid, e, links, counts, flags, listing)
 }

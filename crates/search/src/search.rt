@@ -20,7 +20,9 @@ use totals::pattern::read_pattern;
 
 // The search where nothing but the listing's room is left to ask: what Count does, and then what List does once it
 // knows that the flags are the truth, which those just made are. What the pattern says by itself is lent to both, so
-// that neither makes again what the other made.
+// that neither makes again what the other made. It is no part of its callers' frames: one that searches in either of
+// two ways has the tables of one of them.
+#[inline(never)]
 pub fn search_windows<P: Pattern>(
     text: &[u8],
     pattern: P,
@@ -38,8 +40,18 @@ pub fn search_windows<P: Pattern>(
 {
     let known = read_pattern(pattern);
     let mut own = table(FirstEnd { end: 0, earlier: 0 });
-    let totals = count_flagged(text, &known, s, &mut own, links, counts, flags);
-    list_flagged(text, &known, s, &mut own, totals, flags, listing)
+    let totals = count_flagged(
+        text,
+        known.pattern,
+        known.count,
+        &known.first,
+        s,
+        &mut own,
+        links,
+        counts,
+        flags,
+    );
+    list_flagged(text, &known, s, &mut own, Ok(()), totals, flags, listing)
 }
 
 // Searches a text for a pattern. Refused by 2, 3, 4, 9, 10, and by 11 once the length of the listing is known. That

@@ -11,7 +11,7 @@ pub record Side (n : ℕ) : Type 0 where
   pub positive : 1 ≤ n
   pub small : n ≤ 255
 
-unfoldable pub good_side_test : ℕ → Bool
+pub good_side_test : ℕ → Bool
 good_side_test n = both (leb 1 n) (leb n 255)
 
 -- every side of a text and of a window is
@@ -21,12 +21,12 @@ pub record Sides (rows columns height width : ℕ) : Type 0 where
   pub height_good : Side height
   pub width_good : Side width
 
-unfoldable pub good_sides_test : ℕ → ℕ → ℕ → ℕ → Bool
+pub good_sides_test : ℕ → ℕ → ℕ → ℕ → Bool
 good_sides_test rows columns height width =
     both (good_side_test rows) (both (good_side_test columns) (both (good_side_test height) (good_side_test width)))
 
 -- the cells given are rows × columns in number
-unfoldable pub good_cells_test : ℕ → ℕ → ℕ → Bool
+pub good_cells_test : ℕ → ℕ → ℕ → Bool
 good_cells_test cells rows columns = eqb cells (rows * columns)
 
 -- the window is neither taller nor wider than the text
@@ -34,7 +34,7 @@ pub record Fits (rows columns height width : ℕ) : Type 0 where
   pub height_le : height ≤ rows
   pub width_le : width ≤ columns
 
-unfoldable pub fits : ℕ → ℕ → ℕ → ℕ → Bool
+pub fits : ℕ → ℕ → ℕ → ℕ → Bool
 fits rows columns height width = both (leb height rows) (leb width columns)
 
 -- the corner is not beyond row R − r or column C − c
@@ -42,7 +42,7 @@ pub record Corner (rows columns height width row column : ℕ) : Type 0 where
   pub row_le : row + height ≤ rows
   pub column_le : column + width ≤ columns
 
-unfoldable pub corner_inside_test : ℕ → ℕ → ℕ → ℕ → ℕ → ℕ → Bool
+pub corner_inside_test : ℕ → ℕ → ℕ → ℕ → ℕ → ℕ → Bool
 corner_inside_test rows columns height width row column = both (leb (row + height) rows) (leb (column + width) columns)
 
 -- how many corners there are along a side, none where the part is longer than the whole

@@ -17,7 +17,6 @@ pub struct Shape {
 }
 
 // A side is from 1 to 255.
-#[tactic(auto, unfolding(crate::specs::Shapes::good_side_test))]
 fn good_side(n: usize) -> bool
     ensures { result ≡ good_side_test n }
 {
@@ -25,7 +24,6 @@ fn good_side(n: usize) -> bool
 }
 
 // The cells are rows × columns in number (3). No product is formed that could be too large.
-#[tactic(auto, unfolding(crate::specs::Shapes::good_cells_test))]
 pub fn good_cells(cells: usize, rows: usize, columns: usize) -> bool
     ensures { result ≡ good_cells_test cells rows columns }
 {
@@ -52,7 +50,6 @@ pub fn grid_outcome(cells: &[u8], rows: usize, columns: usize) -> Result<(), Ref
 
 impl Shape {
     // Every side of a text and of a window is good (2).
-    #[tactic(auto, unfolding(crate::specs::Shapes::good_sides_test))]
     pub fn good_sides(self) -> bool
         ensures { result ≡ good_sides_test self.rows self.columns self.height self.width }
     {
@@ -63,7 +60,6 @@ impl Shape {
     }
 
     // A window is neither taller nor wider than the text (4).
-    #[tactic(auto, unfolding(crate::specs::Shapes::fits))]
     pub fn window_fits(self) -> bool
         ensures { result ≡ fits self.rows self.columns self.height self.width }
     {
@@ -71,7 +67,6 @@ impl Shape {
     }
 
     // The corner is not beyond the last row and column (5).
-    #[tactic(auto, unfolding(crate::specs::Shapes::corner_inside_test))]
     pub fn corner_inside(self, row: usize, column: usize) -> bool
         ensures { result ≡ corner_inside_test self.rows self.columns self.height self.width row column }
     {

@@ -11,7 +11,9 @@ use shapes::tables::table;
 
 // The first ends of the first n of the pattern's own windows, and their earlier positions: window k has the pattern's
 // rows from row k to before row rows. It is a run down the pattern as a strip of its own width, with the pattern as its
-// text. Where n is 1 nothing is compared.
+// text. Where n is 1 nothing is compared. It is no part of its callers' frames: its table of 2 KiB would lie in each of
+// them.
+#[inline(never)]
 pub fn own_ends<P: Pattern>(
     pattern: P,
     height: usize,

@@ -1,8 +1,10 @@
--- The totals of a question from its flags: the ones among flags that are the truth are the windows found (`totalled`).
+-- The totals of a question from its flags: the ones among flags that are the truth are the windows found (`totalled`),
+-- also where they stand at the front of a buffer (`totalled_front`).
 -- Assumes nothing.
-use Rattle.std.specs.Prelude.{◌≡◌, refl, List, ℕ, ◌-◌, ◌*◌, ◌≤◌, ◌<◌, eqb, length, get_or, take, count_by}
+use Rattle.std.specs.Prelude.{◌≡◌, refl, not, List, ℕ, ◌-◌, ◌*◌, ◌≤◌, ◌<◌, eqb, length, get_or, take, count_by}
 use Rattle.std.proofs.Common.{sym, ap, ◌∙◌, take_all, arith}
 use Rattle.std.proofs.lemmas.List.{length-take-le, get_or-take}
+use Rattle.theory.specs.Count.Laws.{count_ext}
 use Rattle.shapes.specs.Questions.{asked}
 use Rattle.shapes.specs.Shapes.{across, down}
 use Rattle.shapes.specs.declared.shapes.Shape.{Shape}
@@ -37,16 +39,44 @@ totals_counted flags symbols found e = rw (others_left flags n found counted, co
     counted =
         e ∙ ap (count_by (λ x. eqb x 1)) (sym (take_all n flags (omega arith))) ∙ ones_counted flags n (omega arith)
 
--- the first flags of a buffer, if they are the truth of every window
-pub totalled : (text pattern : List ℕ) (s : Shape) (flags : List ℕ) → down s * across s ≤ length flags
+-- the ones and the others of flags that are the truth are the totals
+pub totalled : (text pattern : List ℕ) (s : Shape) (flags : List ℕ)
+    → ((k : ℕ) → k < down s * across s → get_or flags k 0 ≡ flag_of text pattern s k) → (found refused size : ℕ)
+    → found ≡ ones flags (down s * across s) → refused ≡ others flags (down s * across s)
+    → size ≡ listing_length found refused (distinct pattern)
+    → record { found = found; refused = refused; length = size } ≡ totals_in (asked text pattern s)
+unfolding needed_length
+totalled text pattern s flags flags_are found refused size a b e =
+    rw (e, a, b, ones_found text pattern s flags flags_are, others_refused text pattern s flags flags_are)
+
+-- ---- the first flags of a buffer
+
+module _ (flags : List ℕ) (n : ℕ) where
+  front_ones : ones (take n flags) n ≡ ones flags n
+  unfolding ones
+  front_ones = count_ext _ _ n (λ k h. ap (λ (x : ℕ). eqb x 1) (get_or-take n flags k 0 h))
+
+  front_others : others (take n flags) n ≡ others flags n
+  unfolding others
+  front_others = count_ext _ _ n (λ k h. ap (λ (x : ℕ). not (eqb x 1)) (get_or-take n flags k 0 h))
+
+  -- they add up to their ones and others
+  pub totals_front : (symbols : ℕ) → n ≤ length flags
+      → totals_flagged (take n flags) symbols
+      ≡ record {
+        found = ones flags n;
+        refused = others flags n;
+        length = listing_length (ones flags n) (others flags n) symbols;
+      }
+  totals_front symbols room = rw (length-take-le n flags room, front_ones, front_others) refl
+
+-- so they are the totals, if they are the truth of every window
+pub totalled_front : (text pattern : List ℕ) (s : Shape) (flags : List ℕ) → down s * across s ≤ length flags
     → ((k : ℕ) → k < down s * across s → get_or flags k 0 ≡ flag_of text pattern s k) → (symbols : ℕ)
     → symbols ≡ distinct pattern
     → totals_flagged (take (down s * across s) flags) symbols ≡ totals_in (asked text pattern s)
-unfolding needed_length
-totalled text pattern s flags room flags_are symbols e =
+totalled_front text pattern s flags room flags_are symbols e =
     let n = down s * across s in
-    let front = take n flags in
-    let long : length front ≡ n = length-take-le n flags room in
-    let truth : (k : ℕ) → k < n → get_or front k 0 ≡ flag_of text pattern s k =
-    λ k h. get_or-take n flags k 0 h ∙ flags_are k h in
-    rw (long, ones_found text pattern s front truth, others_refused text pattern s front truth, e)
+    totals_front flags n symbols room
+    ∙ totalled text pattern s flags flags_are _ _ _ refl refl
+    (ap (λ (d : ℕ). listing_length (ones flags n) (others flags n) d) e)

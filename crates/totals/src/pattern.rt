@@ -4,7 +4,7 @@ ghost use Rattle.std.specs.Prelude.{◌≡◌};
 ghost use Rattle.sets.specs.Symbols.{symbols_of};
 ghost use Rattle.totals.specs.Pattern.{KnownOf};
 
-use marking::marks::symbols_placed;
+use crate::marks::symbols_placed;
 use placed::pattern::Pattern;
 use sets::symbols::list_symbols;
 use shapes::tables::table;

@@ -1,8 +1,7 @@
 -- What the walk over all windows says.
 -- Assumes nothing.
 use Rattle.std.proofs.Common.{◌≡◌, Bool, List, eqb, length, get_or, replicate, refl, ap, sym, ◌∙◌, subst, add-zero}
-use Rattle.std.proofs.Common.{add-suc, add-one, arith, ℕ, zero, suc, ◌+◌, ◌-◌, ◌*◌, ◌≤◌, ◌<◌, Result, Ok, Err, Option}
-use Rattle.std.proofs.Common.{Some, None}
+use Rattle.std.proofs.Common.{add-suc, add-one, arith, ℕ, zero, suc, ◌+◌, ◌-◌, ◌*◌, ◌≤◌, ◌<◌, Result, Ok, Err, None}
 use Rattle.std.proofs.lemmas.List.{length-replicate}
 use Rattle.theory.specs.Test.{pick}
 use Rattle.theory.specs.Count.{count}
@@ -96,7 +95,7 @@ window_asks text pattern s shape size k h v e =
 
 -- before the first window nothing is
 pub tables_none : (text pattern : List ℕ) (columns height width : ℕ) (tables : Tables) → SidesOf pattern height width
-    → columns ≤ 255 → tables.offsets ≡ None → tables.own ≡ replicate 256 (record { end = 0; earlier = 0 }) → tables.tops ≡ replicate 256 None
+    → columns ≤ 255 → tables.offsets ≡ None → tables.own ≡ replicate 256 (record { end = 0; earlier = 0 }) → tables.tops ≡ replicate 256 0
     → CheckTables text pattern columns height width tables
 tables_none text pattern columns height width tables sides narrow f s t =
     record {
@@ -104,7 +103,7 @@ tables_none text pattern columns height width tables sides narrow f s t =
         sides = sides;
         narrow = narrow;
         tops_are = record {
-          long = rw t (length-replicate {A = Option ℕ} 256 None);
+          long = rw t (length-replicate {A = ℕ} 256 0);
           each = λ j row e. absurd (none j row (rw t at e));
         };
         owned = record {
@@ -122,13 +121,13 @@ tables_none text pattern columns height width tables sides narrow f s t =
     unmade : 0 < (own_at (replicate {A = FirstEnd} 256 (record { end = 0; earlier = 0 })) 0).end → ⊥
     unmade h = omega (arith, h, none_made 256)
 
-    nones : (n j : ℕ) → get_or (replicate {A = Option ℕ} n None) j None ≡ None
-    nones zero j = refl
-    nones (suc n) zero = refl
-    nones (suc n) (suc j) = nones n j
+    zeros : (n j : ℕ) → get_or (replicate {A = ℕ} n 0) j 0 ≡ 0
+    zeros zero j = refl
+    zeros (suc n) zero = refl
+    zeros (suc n) (suc j) = zeros n j
 
-    none : (j row : ℕ) → get_or (replicate {A = Option ℕ} 256 None) j None ≡ Some row → ⊥
-    none j row e = cc (nones 256 j)
+    none : (j row : ℕ) → get_or (replicate {A = ℕ} 256 0) j 0 ≡ row + 1 → ⊥
+    none j row e = omega (arith, e, zeros 256 j)
 
 module _ (text pattern : List ℕ) (columns height width k : ℕ) (v : WindowPlace) (tables : Tables)
     (e : v ≡ window_place columns height width k) where

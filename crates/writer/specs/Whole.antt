@@ -1,7 +1,7 @@
 -- The whole listing: the records of all windows, and behind them the closing.
 -- Assumes nothing.
 use Rattle.std.specs.Prelude.{◌≡◌, refl, List, ◌++◌, ℕ, ◌+◌, ◌*◌, ◌≤◌, length}
-use Rattle.std.proofs.Common.{sym, ap, ◌∙◌, zero-add, arith}
+use Rattle.std.proofs.Common.{sym, ap, ap₂, ◌∙◌, zero-add, arith}
 use Rattle.theory.specs.Join.{joined}
 use Rattle.shapes.specs.Questions.{asked}
 use Rattle.shapes.specs.Shapes.{across, down}
@@ -14,8 +14,6 @@ use Rattle.theory.specs.Pieces.{first_room, second_room, both-written}
 use Rattle.listing.specs.Entries.Laws.{bytes_append, bytes_one}
 use Rattle.listing.specs.declared.records.Record.TheVariants.{Closing}
 use Rattle.entries.specs.Listing.{entry_of_window, found_in, refused_in, search_records, search_listing}
-use Rattle.entries.specs.Listing.Totals.{totals_in}
-use Rattle.listing.specs.declared.totals.Totals.{Totals}
 use Rattle.passes.specs.Windows.{window_bytes, Flagged}
 
 -- bytes written at a buffer's start
@@ -30,9 +28,10 @@ pattern_fits text pattern s flags f =
     let v = f.shape in
     omega (arith, f.size, product_le s.height s.width 255 255 (omega arith) (omega arith))
 
-module _ (text pattern : List ℕ) (s : Shape) (totals : Totals ℕ) (t : totals ≡ totals_in (asked text pattern s)) where
+module _ (text pattern : List ℕ) (s : Shape) (found refused : ℕ) (f : found ≡ found_in (asked text pattern s))
+    (r : refused ≡ refused_in (asked text pattern s)) where
   abbrev last_bytes : List ℕ
-  last_bytes = bytes_of (Closing totals.found totals.refused)
+  last_bytes = bytes_of (Closing found refused)
 
   closing : search_listing (asked text pattern s) ≡ window_bytes text pattern s ++ last_bytes
   unfolding search_listing search_records window_bytes
@@ -40,7 +39,7 @@ module _ (text pattern : List ℕ) (s : Shape) (totals : Totals ℕ) (t : totals
       bytes_append (joined (entry_of_window (asked text pattern s)) (down s * across s)) _
       ∙ ap (λ (xs : List ℕ). window_bytes text pattern s ++ xs)
       (bytes_one (Closing (found_in (asked text pattern s)) (refused_in (asked text pattern s)))
-      ∙ ap (λ (x : Totals ℕ). bytes_of (Closing x.found x.refused)) (sym t))
+      ∙ ap₂ (λ (a b : ℕ). bytes_of (Closing a b)) (sym f) (sym r))
 
   module _ (old : List ℕ) (room : length (search_listing (asked text pattern s)) ≤ length old) where
     room_front : 0 + length (search_listing (asked text pattern s)) ≤ length old

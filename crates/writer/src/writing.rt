@@ -5,8 +5,7 @@ ghost use Rattle.shapes.specs.Shapes.{down};
 ghost use Rattle.refusals.specs.Said.{over_front};
 ghost use Rattle.theory.specs.Written.{written};
 ghost use Rattle.sweep.specs.Sweep.{OwnSoFar};
-ghost use Rattle.entries.specs.Listing.{search_listing};
-ghost use Rattle.entries.specs.Listing.Totals.{totals_in};
+ghost use Rattle.entries.specs.Listing.{search_listing, found_in, refused_in};
 ghost use Rattle.passes.specs.Windows.{Flagged, window_bytes};
 
 use entries::offsets::{PairPlace, list_offsets};
@@ -68,7 +67,8 @@ pub fn write_listing<P: Pattern>(
     listing: &mut [u8],
 )
     requires { Flagged text.now (P.cells known.now.pattern) s flags.now
-        × (totals ≡ totals_in (asked text.now (P.cells known.now.pattern) s))
+        × (totals.found ≡ found_in (asked text.now (P.cells known.now.pattern) s))
+        × (totals.refused ≡ refused_in (asked text.now (P.cells known.now.pattern) s))
         × (length (search_listing (asked text.now (P.cells known.now.pattern) s)) ≤ length listing.old)
         × OwnSoFar (P.cells known.now.pattern) s.width (down s) own.old }
     ensures { listing.new ≡ over_front (search_listing (asked text.now (P.cells known.now.pattern) s))

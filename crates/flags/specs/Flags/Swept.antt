@@ -85,7 +85,7 @@ module _ (text pattern : List ℕ) (symbols : ℕ) (s : Shape) (left : ℕ) (cou
           ∙ end_strip_flag text pattern symbols s left counts ready.room.shape beside ready.room.size
           ready.symbols_is ready.counts_are top inside count ec
 
-      flag_written : set flags (top * across s + left) flag
+      pub flag_written : set flags (top * across s + left) flag
           ≡ stored (flag_of text pattern s) (λ top. top * across s + left) (top + 1) flags₀
       flag_written =
           rw (add-one top)

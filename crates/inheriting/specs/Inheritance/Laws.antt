@@ -1,8 +1,8 @@
 -- Laws of inheritance: what is carried follows, and what follows is carried; the window below follows in the rows that
 -- are not new.
 -- Assumes nothing.
-use Rattle.std.proofs.Common.{◌≡◌, Bool, false, List, ℕ, ◌+◌, ◌-◌, ◌*◌, ◌≤◌, ◌<◌, length, get_or, set, Option, Some}
-use Rattle.std.proofs.Common.{None, sym, ◌∙◌, ap, add-mul, zero-mul, mul-le-mul_right, arith, length-set}
+use Rattle.std.proofs.Common.{◌≡◌, Bool, false, List, ℕ, ◌+◌, ◌-◌, ◌*◌, ◌≤◌, ◌<◌, length, get_or, set}
+use Rattle.std.proofs.Common.{sym, ◌∙◌, ap, add-mul, zero-mul, mul-le-mul_right, arith, length-set}
 use Rattle.std.proofs.Common.{get_or-set_same, get_or-set_other}
 use Rattle.theory.specs.Test.{Tested, holds, fails}
 use Rattle.theory.specs.Test.Laws.{eq_tested}
@@ -116,7 +116,7 @@ module _ (text pattern : List ℕ) (v : WindowPlace) (above k end : ℕ) (some :
 -- ---- from window to window
 
 module _ (text pattern : List ℕ) (columns height width : ℕ) (own : List FirstEnd)
-    (tops : List (Option ℕ)) (here : Above text pattern columns height width own tops) where
+    (tops : List ℕ) (here : Above text pattern columns height width own tops) where
   -- the own ends are made
   pub above_made : (made : List FirstEnd) → OwnEndsMade pattern height width made
       → Above text pattern columns height width made tops
@@ -131,7 +131,7 @@ module _ (text pattern : List ℕ) (columns height width : ℕ) (own : List Firs
   -- one more window follows
   pub above_more : (row column : ℕ) → column < columns
       → Follows (cell_of_pattern pattern) (window_at text columns row column width) (height * width)
-      → Above text pattern columns height width own (set tops column (Some row))
+      → Above text pattern columns height width own (set tops column (row + 1))
   above_more row column inside follows =
       record {
         sides = here.sides;
@@ -143,15 +143,16 @@ module _ (text pattern : List ℕ) (columns height width : ℕ) (own : List Firs
         owned = here.owned;
       }
     where
-      go : (j r : ℕ) {t : Bool} → get_or (set tops column (Some row)) j None ≡ Some r → Tested (j ≡ column) t
+      go : (j r : ℕ) {t : Bool} → get_or (set tops column (row + 1)) j 0 ≡ r + 1 → Tested (j ≡ column) t
           → Follows (cell_of_pattern pattern) (window_at text columns r j width) (height * width)
       go j r l (holds e) =
-          let s : get_or (set tops column (Some row)) column None ≡ Some row =
-          get_or-set_same tops column (Some row) None (omega (arith, here.tops_are.long, here.narrow)) in
-          let b : r ≡ row = cc (ap (λ (k : ℕ). get_or (set tops column (Some row)) k None) e) in
+          let s : get_or (set tops column (row + 1)) column 0 ≡ row + 1 =
+          get_or-set_same tops column (row + 1) 0 (omega (arith, here.tops_are.long, here.narrow)) in
+          let m : get_or (set tops column (row + 1)) column 0 ≡ r + 1 = rw e at l in
+          let b : r ≡ row = omega (arith, s, m) in
           rw (e, b) follows
       go j r l (fails d) =
-          here.tops_are.each j r (sym (get_or-set_other tops column j (Some row) None d) ∙ l)
+          here.tops_are.each j r (sym (get_or-set_other tops column j (row + 1) 0 d) ∙ l)
 
 -- ---- small numbers
 

@@ -88,14 +88,14 @@ module _ {whole : List ℕ} {stop : ℕ} (bytes output : List ℕ) (end i : ℕ)
 
 -- what the reader answers where a record stands: the place behind it, and no refusal
 module _ (listing : List ℕ) (at : ℕ) (q : Read) (reads : read_said q ≡ cursor_said listing at) where
-  whole_end : (r : Record) (next : Cursor) → q ≡ Ok (r, next) → HasRecord listing at → next.at ≡ at + size_at listing at
+  pub whole_end : (r : Record) (next : Cursor) → q ≡ Ok (r, next) → HasRecord listing at → next.at ≡ at + size_at listing at
   whole_end r next e has =
       ap (λ (x : Said). get_or (said_values x) 0 0) (ap read_said (sym e) ∙ reads ∙ said_whole listing at has)
 
   whole_inside : (r : Record) (next : Cursor) → q ≡ Ok (r, next) → at < length listing
   whole_inside r next e = (read_whole listing at r next (rw e at reads)).inside
 
-  no_refusal : (why : Refusal) → q ≡ Err why → HasRecord listing at → ⊥
+  pub no_refusal : (why : Refusal) → q ≡ Err why → HasRecord listing at → ⊥
   no_refusal why e has = refused_none listing at why (rw e at reads) has
 
 module _ (listing : List ℕ) (place : ℕ) (r : Record) (rest : List Record)
@@ -212,7 +212,7 @@ module _ (listing old : List ℕ) (at : ℕ) where
 
   module _ (output : List ℕ) (end place : ℕ) (w : PrintedTo listing old at output end place) where
     -- the listing is at its end: all lines are written
-    reached_all : length listing ≤ place → Printed listing old at output end
+    pub reached_all : length listing ≤ place → Printed listing old at output end
     unfolding lines_of
     reached_all past =
         record {
@@ -235,17 +235,17 @@ module _ (listing old : List ℕ) (at : ℕ) where
             let g = w.going records e in next_record listing old at records output end place more g.0 g.1
 
         -- a record stands there
-        record_here : HasRecord listing place
+        pub record_here : HasRecord listing place
         record_here =
             let n = next_of some.records some.bytes_are in has_here listing place n.0 n.1 n.2.bytes_here
 
         module _ (next : ℕ) (e : next ≡ place + size_at listing place) where
           -- it ends inside
-          next_inside : (place < next) × (next ≤ length listing)
+          pub next_inside : (place < next) × (next ≤ length listing)
           next_inside = (omega (arith, record_here.known), omega (arith, record_here.within))
 
           -- there is room for its line
-          line_room : (0 < length (take (next - place) (drop place listing)))
+          pub line_room : (0 < length (take (next - place) (drop place listing)))
               × (end + length (line_of (take (next - place) (drop place listing))) ≤ length output)
           line_room =
               let n = next_of some.records some.bytes_are in
@@ -256,7 +256,7 @@ module _ (listing old : List ℕ) (at : ℕ) where
               )
 
           -- and then the next record is reached
-          printed_more : (new : List ℕ) (stop : ℕ)
+          pub printed_more : (new : List ℕ) (stop : ℕ)
               → stop ≡ end + length (line_of (take (next - place) (drop place listing)))
               → new ≡ written output end (line_of (take (next - place) (drop place listing)))
               → PrintedTo listing old at new stop next

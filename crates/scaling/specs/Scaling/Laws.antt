@@ -1,16 +1,19 @@
 -- Laws of the room at a scale: a side enlarged fits by its quotient; 2, 3 and 17, then 9 and 10 of the enlarged sides
--- are the chains of crates/scaled; the numbers of a scale that fits are small.
+-- are the chains of crates/scaled; a pattern that lies by sound numbers is the enlargement (`placed_enlarged`), and the
+-- numbers of a scale that fits are small.
 -- Assumes nothing.
-use Rattle.std.specs.Prelude.{◌≡◌, true, [], ℕ, ◌*◌, ◌/◌, ◌≤◌, leb}
+use Rattle.std.specs.Prelude.{◌≡◌, true, List, [], ℕ, ◌*◌, ◌/◌, ◌≤◌, leb, get_or}
 use Rattle.std.proofs.Common.{sym, ◌∙◌, ap, le-div_iff_mul-le, le_refl, mul-le-mul, mul-le-mul_left, mul-zero, arith}
 use Rattle.std.proofs.Math.Nat.{one-mul}
 use Rattle.theory.specs.Test.Laws.{tested_same, tested_iff, le_tested, is_true}
+use Rattle.theory.specs.Table.{table}
 use Rattle.refusals.specs.Said.{Said, accepts, ◌then◌}
 use Rattle.shapes.specs.Shapes.{Sides, windows}
 use Rattle.shapes.specs.Questions.{Question, sides_of}
 use Rattle.shapes.specs.declared.shapes.Shape.{Shape}
 use Rattle.flags.specs.Flags.{Rooms}
-use Rattle.scaled.specs.Scaled.{scaled, FitsAt, scaled_shape_said, scaled_room_said, largest_of}
+use Rattle.placed.specs.Placing.{index_at, enlarged, Sound}
+use Rattle.scaled.specs.Scaled.{enlarged_cells, scaled, FitsAt, scaled_shape_said, scaled_room_said, largest_of}
 use Rattle.scaled.specs.Scaled.{every_room_said}
 use Rattle.scaled.specs.Scaled.Fit.{PosedAt, posed_between, largest_some}
 use Rattle.rooms.specs.Rooms.{links_said, windows_said}
@@ -63,11 +66,19 @@ pub largest_sides : (q : Question) (k : ℕ) (sides : Shape) → k ≡ largest_o
     → sides ≡ sides_of (scaled (largest_of q) q)
 largest_sides q k sides e d = d ∙ ap (λ (n : ℕ). sides_of (scaled n q)) e
 
--- ---- the numbers of an enlargement
+-- ---- how an enlargement lies
 
--- of a scale that fits they are small
+-- a pattern that lies by sound numbers is the enlargement by their scale
+pub placed_enlarged : {k height width cells by_scale by_width by_block : ℕ}
+    → Sound k height width cells by_scale by_width by_block → (pattern : List ℕ)
+    → enlarged pattern k width cells ≡ enlarged_cells k pattern height width
+unfolding enlarged_cells
+placed_enlarged {k = k} {width = width} s pattern =
+    ap (λ (n : ℕ). table (λ p. get_or pattern (index_at k width p) 0) n) s.cells_is
+
+-- the numbers of a scale that fits are small
 module _ (k : ℕ) (s : Shape) (good : Sides s.rows s.columns s.height s.width) (fit : FitsAt k s) where
-  scale_small : k ≤ 255
+  pub scale_small : k ≤ 255
   scale_small =
       omega (
         arith,

@@ -1,7 +1,7 @@
 -- What each part of the chain 2, 3, 4 passes, and that a question passes all of it exactly if it is posed.
 -- Assumes nothing.
 use Rattle.std.specs.Prelude.{◌≡◌, ℕ, ◌*◌, ◌≤◌, length}
-use Rattle.std.proofs.Math.Path.{sym}
+use Rattle.std.proofs.Math.Path.{refl, sym}
 use mathlib.Core.List.{List, []}
 use Rattle.std.proofs.Common.{arith}
 use Rattle.theory.specs.Test.Laws.{says_true, is_true}
@@ -42,6 +42,12 @@ shape_at_most q n h =
     then_at_most (numbered_at_most n (sides_numbered (sides_of q)) (omega arith))
     (then_at_most (numbered_at_most n (cells_numbered q) (omega arith))
     (numbered_at_most n (size_numbered (sides_of q)) h))
+
+-- what is said of a question is said in this order; the laws above the lower library have it from here
+pub shape_in_order : (q : Question)
+    → shape_said q ≡ sides_said (sides_of q) then cells_said q then size_said (sides_of q)
+unfolding shape_said
+shape_in_order q = refl
 
 -- ---- what each part passes
 

@@ -17,7 +17,7 @@ module _ (text : List ℕ) (v : WindowPlace) where
       first_row = omega (arith, s.tall)
 
   -- the text has columns, since the window has
-  columns_some : Placed text v → 0 < v.columns
+  pub columns_some : Placed text v → 0 < v.columns
   columns_some s = omega (arith, s.some, s.across)
 
   -- every row lies in the text

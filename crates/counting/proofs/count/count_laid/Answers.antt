@@ -5,7 +5,12 @@ use Rattle.counting.proofs.count.count_laid.Goals as goal
 
 pub count_flagged-requires : goal.count_flagged-requires
 count_flagged-requires g c =
-    (rw c.read_pattern-known.ensures c.requires, own_unmade _ _ _ _ c.table-own.ensures)
+    let known = c.read_pattern-known.result in (
+      rw c.read_pattern-known.ensures c.requires,
+      known.are.count_is,
+      known.are.first_are,
+      own_unmade _ _ _ _ c.table-own.ensures,
+    )
 
 pub returns : goal.returns
 returns g c =

@@ -1,7 +1,8 @@
 -- `offsets::list_offsets` meets its contract. The invariant: the first k symbols have their pairs. The next one's first
 -- place is the least that has it (`place_listed`), so it lies in the pattern, whose positions are small numbers.
 -- Assumes nothing.
-use Rattle.std.proofs.Common.{◌≡◌, ◌≤◌, ◌<◌, get_or, length-set, arith}
+use Rattle.std.proofs.Common.{◌≡◌, ◌≤◌, ◌<◌, ◌/◌, get_or, length-set, mod-lt, mul-le-mul, arith}
+use Rattle.std.proofs.Math.Nat.{div-le_self}
 use Rattle.sets.specs.Symbols.Patterns.{listed_few, listed_symbol}
 use Rattle.entries.specs.Listing.Offsets.{pairs_more, pairs_all, first_place, place_listed, place_stands}
 use Rattle.entries.proofs.offsets.list_offsets.Goals as goal
@@ -25,6 +26,20 @@ small g c =
 pub cell_offset-requires : goal.cell_offset-requires
 cell_offset-requires g c =
     (c.requires.0, omega arith, rw c.from.ensures (small g (goal.at.cell_offset-requires g c).In-loop-k))
+
+-- at most 255 columns for each of the pattern's rows, of which there are no more than positions
+pub overflow_cast-pairs : goal.overflow_cast-pairs
+overflow_cast-pairs g c =
+    let place = get_or c.args.first.now c.from.result 0 in
+    let few : place ≤ 65025 = rw c.from.ensures (small g (goal.at.overflow_cast-pairs g c).In-loop-k) in
+    let rows : place / c.args.width ≤ 65025 = omega (arith, few, div-le_self place c.args.width) in
+    omega (
+      arith,
+      c.cell_offset.ensures,
+      mul-le-mul rows c.requires.2,
+      mod-lt place c.requires.0,
+      c.requires.1,
+    )
 
 pub bounds-pairs-k : goal.bounds-pairs-k
 bounds-pairs-k g c = few g (goal.at.bounds-pairs-k g c).In-loop-k

@@ -6,7 +6,7 @@ use Rattle.sets.specs.Symbols.{symbols_of}
 use Rattle.sets.specs.Symbols.Patterns.{listed_symbol}
 use Rattle.matching.specs.Compared.{pattern_seen, window_seen, cells_seen}
 use Rattle.claims.specs.Claims.{Walk, pairs_from}
-use Rattle.pairs.specs.Pairs.{symbols_inside}
+use Rattle.pairs.specs.Pairs.{found_at, symbols_inside}
 use Rattle.pairs.specs.Pairs.Rising.{symbols_left_none, left_stopped, left_passed, marks_next}
 use Rattle.found.proofs.window.check_pairs.Goals as goal
 use Rattle.found.proofs.window.check_pairs.Goals.{Start}
@@ -24,7 +24,7 @@ plain_pairs-plain-requires c =
 
 pub loop-i-init : goal.loop-i-init
 loop-i-init c =
-    c.plain_pairs-plain.ensures.plain_to.left c.requires.0 c.requires.1
+    c.plain_pairs-plain.ensures.plain_to.each _ _ (found_at c.args.w) c.requires.0 c.requires.1
 
 pub check_pair-requires : goal.check_pair-requires
 check_pair-requires c = (listed_symbol _ _ c.requires.0 c.loop-i.i c.loop-i-test.true).1

@@ -4,17 +4,17 @@ use Rattle.std.proofs.Common.{refl, add-zero, length, arith}
 use Rattle.pairs.specs.Pairs.Plain.{plain_none, plain_more, pairs_room}
 use Rattle.pairs.proofs.plain.plain_pairs.Goals as goal
 
-pub returns-then-not-w-clause-plain_to : goal.returns-then-not-w-clause-plain_to
-returns-then-not-w-clause-plain_to c = plain_none c.args.w _ _ _ _ _ _ (add-zero c.args.at) (omega arith)
+pub returns-then-not-carried-clause-plain_to : goal.returns-then-not-carried-clause-plain_to
+returns-then-not-carried-clause-plain_to c = plain_none _ _ _ _ _ _ _ _ _ _ (add-zero c.args.at) (omega arith)
 
 pub loop-k-init : goal.loop-k-init
-loop-k-init c = (omega arith, plain_none c.args.w _ _ _ _ _ _ refl (omega arith))
+loop-k-init c = (omega arith, plain_none _ _ _ _ _ _ _ _ _ _ refl (omega arith))
 
 pub loop-k-preserved : goal.loop-k-preserved
 loop-k-preserved c = (
   omega (arith, c.loop-k.invariant.0),
-  plain_more c.args.w _ _ _ _ _ c.loop-k.k c.loop-k.end _ _ c.if-not-w.false c.loop-k.invariant.1 c.loop-k-test.true
-      (omega (
+  plain_more _ _ _ _ _ _ _ _ _ c.loop-k.k c.loop-k.end _ _ c.if-not-carried.false c.loop-k.invariant.1
+      c.loop-k-test.true (omega (
         arith,
         c.loop-k.invariant.0,
         pairs_room (length c.args.listing.now) c.args.at (length c.args.symbols.now) c.loop-k.k

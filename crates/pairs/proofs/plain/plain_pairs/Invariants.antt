@@ -6,4 +6,4 @@ use Rattle.pairs.proofs.plain.plain_pairs.Given as goal
 abbrev pub invariant-loop-k : goal.invariant-loop-k
 invariant-loop-k l =
     (l.end ≡ l.at + 3 * l.k)
-    × PlainTo l.w l.base l.symbols l.listing l.at l.initial.given l.k l.end l.given
+    × PlainTo l.text l.carried l.corner l.offsets l.base l.symbols l.listing l.at l.initial.given l.k l.end l.given

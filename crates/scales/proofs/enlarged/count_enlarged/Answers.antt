@@ -1,5 +1,5 @@
--- `enlarged::count_enlarged` meets its contract: the pattern lies enlarged (`enlarging`), so what is counted for it is
--- counted for the enlargement.
+-- `enlarged::count_enlarged` meets its contract: the pattern lies enlarged (`enlarged_pattern`), so what is counted for
+-- it is counted for the enlargement.
 -- Assumes nothing.
 use Rattle.std.proofs.Common.{◌≡◌, length, sym, ◌∙◌, ap, subst}
 use Rattle.shapes.specs.Questions.{Question, asked, question_in}
@@ -15,11 +15,11 @@ use Rattle.scales.proofs.enlarged.count_enlarged.Goals.{After-enlarged_shape-e, 
 -- the question for the pattern as it lies is the one for its enlargement
 same : (c : After-enlarged_shape-e) →
     let a = c.args in
-    let l = c.enlarging-laid.result in
+    let l = c.enlarged_pattern-laid.result in
     asked a.q.text.now (enlarged l.own.now l.scale l.width l.cells) c.enlarged_shape-e.result
     ≡ scaled a.k (question_in a.q)
 same c =
-    enlarged_asked c.args.q.text.now c.args.q.pattern.now _ c.args.q.shape _ c.args.k c.enlarging-laid.ensures
+    enlarged_asked c.args.q.text.now c.args.q.pattern.now _ c.args.q.shape _ c.args.k c.enlarged_pattern-laid.ensures
     c.enlarged_shape-e.ensures
 
 -- at scale 1 it is the one that was asked
@@ -41,8 +41,8 @@ returns-then-k-eq1 c =
       totals = c.count_laid.ensures.totals ∙ ap totals_in e;
     }
 
-pub enlarging-laid-requires : goal.enlarging-laid-requires
-enlarging-laid-requires c =
+pub enlarged_pattern-laid-requires : goal.enlarged_pattern-laid-requires
+enlarged_pattern-laid-requires c =
     let p = c.requires.0 in (p.sides, p.fitting, p.pattern_size)
 
 pub enlarged_shape-e-requires : goal.enlarged_shape-e-requires

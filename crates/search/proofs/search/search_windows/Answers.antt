@@ -10,15 +10,23 @@ use Rattle.search.proofs.search.search_windows.Goals as goal
 
 pub count_flagged-totals-requires : goal.count_flagged-totals-requires
 count_flagged-totals-requires g c =
-    (rw c.read_pattern-known.ensures c.requires, own_unmade _ _ _ _ c.table-own.ensures)
+    let known = c.read_pattern-known.result in (
+      rw c.read_pattern-known.ensures c.requires,
+      known.are.count_is,
+      known.are.first_are,
+      own_unmade _ _ _ _ c.table-own.ensures,
+    )
 
 pub list_flagged-requires : goal.list_flagged-requires
 list_flagged-requires g c =
     let a = c.args in
     let counted = c.count_flagged-totals.ensures in (
-      flagged_after _ _ _ (working a.links.now a.counts.now a.flags.now) _ (rw c.read_pattern-known.ensures c.requires)
-          counted.buffers,
-      counted.totals,
+      record {
+        flagged = λ _.
+            flagged_after _ _ _ (working a.links.now a.counts.now a.flags.now) _
+            (rw c.read_pattern-known.ensures c.requires) counted.buffers;
+        totalled = λ _. counted.totals;
+      },
       counted.own_so_far,
     )
 

@@ -1,12 +1,9 @@
--- `WindowView::symbol` meets its contract: the place is formed as the window's reading says, and lies in the text.
+-- `WindowView::symbol` meets its contract: a cell of a window that lies in the text is one that `cell_at` may read.
 -- Assumes nothing.
-use Rattle.std.proofs.Common.{sym, arith}
-use Rattle.cells.specs.Windows.Laws.{window_at_lem}
-use Rattle.view.specs.Places.Laws.{position_inside}
+use Rattle.view.specs.Places.Laws.{columns_some, position_inside}
 use Rattle.view.proofs.WindowView.symbol.Goals as goal
 
-pub bounds-self-v : goal.bounds-self-v
-bounds-self-v c = omega (arith, position_inside _ _ c.args.self.placed _ c.requires)
-
-pub returns : goal.returns
-returns c = sym (window_at_lem _ _ _ _ _ _)
+pub window_symbol-requires : goal.window_symbol-requires
+window_symbol-requires c =
+    let s = c.args.self.placed in
+    record { some = s.some; broad = columns_some _ _ s; within = position_inside _ _ s _ c.requires }

@@ -3,7 +3,7 @@
 -- Assumes nothing.
 use Rattle.std.proofs.Common.{arith}
 use Rattle.sets.specs.Symbols.Marking.{below_more}
-use Rattle.marking.proofs.marks.marks_by.Goals as goal
+use Rattle.totals.proofs.marks.marks_by.Goals as goal
 
 pub loop-v-preserved : goal.loop-v-preserved
 loop-v-preserved g c =

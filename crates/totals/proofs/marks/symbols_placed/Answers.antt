@@ -3,7 +3,7 @@
 -- Assumes nothing.
 use Rattle.std.proofs.Common.{◌∙◌}
 use Rattle.sets.specs.Symbols.Marking.{marks_bits, marked_set}
-use Rattle.marking.proofs.marks.symbols_placed.Goals as goal
+use Rattle.totals.proofs.marks.symbols_placed.Goals as goal
 
 pub symbols_marked-requires : goal.symbols_marked-requires
 symbols_marked-requires g c = marks_bits _ _ c.marks_by-marks.ensures.marks
